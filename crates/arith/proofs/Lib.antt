@@ -1,0 +1,10 @@
+pub mod Int
+pub mod Ring
+pub mod Order
+pub mod Lin
+pub mod Span
+pub mod Machine
+pub mod NearestLaws
+pub mod Division
+pub mod RootLaws
+pub mod Examples

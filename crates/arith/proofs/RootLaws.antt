@@ -1,0 +1,38 @@
+-- Laws of `root`: it is the greatest number whose square is not above n, and there is one such number only. Assumes nothing.
+use mathlib.Core.Path.{_≡_}
+use mathlib.Core.Bool.{Bool, true, false, not, cond}
+use Prim.Native.Nat.{ℕ, zero, suc, _+_, _*_, _/_, _≤_, _<_}
+use native.Mathlib.Nat.{mul-le-mul, le-refl, le-antisymm}
+use native.Mathlib.Decide.{decLe}
+use native.Mathlib.Omega.{arith}
+use lib.Dec.{T, leb, leb→le, nleb→lt}
+use Rattle.arith.specs.Root.{IsRoot, rootIn, root}
+
+rootIn-is : (fuel n : ℕ) → n ≤ fuel → IsRoot n (rootIn fuel n)
+unfolding rootIn
+rootIn-is zero n h = record { below = omega arith; above = omega arith }
+rootIn-is (suc fuel) zero h = record { below = omega arith; above = omega arith }
+rootIn-is (suc fuel) (suc m) h =
+    digit (leb ((r + 1) * (r + 1)) (suc m)) (λ t. leb→le ((r + 1) * (r + 1)) (suc m) t) (λ t. nleb→lt ((r + 1) * (r + 1)) (suc m) t)
+    (rootIn-is fuel (suc m / 4) (omega arith))
+  where
+    r : ℕ
+    r = 2 * rootIn fuel (suc m / 4)
+
+    digit : (t : Bool) → (T t → (r + 1) * (r + 1) ≤ suc m) → (T (not t) → suc m < (r + 1) * (r + 1)) → IsRoot (suc m / 4) (rootIn fuel (suc m / 4)) → IsRoot (suc m) (cond t (r + 1) r)
+    digit true f g a = record { below = f tt; above = omega (arith, a .above) }
+    digit false f g a = record { below = omega (arith, a .below); above = omega (arith, g tt) }
+
+pub root-is : (n : ℕ) → IsRoot n (root n)
+unfolding root
+root-is n = rootIn-is n n (le-refl n)
+
+pub root-mono : {m n r s : ℕ} → IsRoot m r → IsRoot n s → m ≤ n → r ≤ s
+root-mono {m} {n} {r} {s} a b h = go (decLe r s)
+  where
+    go : Dec (r ≤ s) → r ≤ s
+    go (yes p) = p
+    go (no f) = let g : suc s ≤ r = omega arith in let e : ⊥ = omega (arith, a .below, b .above, mul-le-mul g g) in absurd e
+
+pub root-only : {n r s : ℕ} → IsRoot n r → IsRoot n s → r ≡ s
+root-only {n} a b = le-antisymm (root-mono a b (le-refl n)) (root-mono b a (le-refl n))

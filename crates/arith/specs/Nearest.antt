@@ -1,0 +1,22 @@
+-- Division to the nearest whole number, as document 01 rounds: halves away from zero.
+use Prim.Native.Nat.{ℕ, suc, _-_, _/_, _%_}
+use mathlib.Core.Bool.{cond}
+use lib.Dec.{ltb}
+use lib.IntN.{ℤ, pos, negsuc, negℤ}
+
+-- THE RULE FOR TIES, here and nowhere else: a size half-way between q and q + 1 goes away from zero
+unfoldable pub tie : ℕ → ℕ
+tie q = suc q
+
+-- q, with `over` left over and `short` wanting to the next whole number
+abbrev pub settled : ℕ → ℕ → ℕ → ℕ
+settled q over short = cond (ltb over short) q (cond (ltb short over) (suc q) (tie q))
+
+-- n / d for sizes
+unfoldable pub nearestℕ : ℕ → ℕ → ℕ
+nearestℕ n d = settled (n / d) (n % d) (d - n % d)
+
+-- n / d: the size is brought to the nearest whole number, and the sign stays
+unfoldable pub nearest : ℤ → ℕ → ℤ
+nearest (pos n) d = pos (nearestℕ n d)
+nearest (negsuc n) d = negℤ (pos (nearestℕ (suc n) d))
