@@ -1,0 +1,160 @@
+// The fuel, the air that burns it and the flue gas that leaves.
+ghost use Rattle.quantity.specs.Checked.{Measured};
+use crate::Number;
+use crate::measured;
+
+// The share of one gas in the fuel, in 0.01 %.
+pub struct Share(pub i64);
+
+pub struct ShareRead {
+    pub value: Share,
+    pub fault: usize,
+}
+
+impl Share {
+    pub const LEAST: i64 = 0;
+
+    pub const GREATEST: i64 = 10_000;
+
+    // Checks one of the thirteen shares of the line `gas`.
+    pub fn checked(v: Number, fault: usize, field: usize) -> ShareRead
+        ensures { λ r. do ⌜ Measured (← ⟦Share::LEAST⟧ .entry) (← ⟦Share::GREATEST⟧ .entry) (v .0) fault field (r .value .0) (r .fault) ⌝ }
+    {
+        let read = measured(v, Share::LEAST, Share::GREATEST, fault, field);
+        ShareRead {
+            value: Share(read.value),
+            fault: read.fault,
+        }
+    }
+}
+
+// The moisture X of the air, in 0.0001 kilograms per kilogram.
+pub struct Moisture(pub i64);
+
+pub struct MoistureRead {
+    pub value: Moisture,
+    pub fault: usize,
+}
+
+impl Moisture {
+    pub const LEAST: i64 = 0;
+
+    pub const GREATEST: i64 = 500;
+
+    // Checks the field of the line `air`.
+    pub fn checked(v: Number, fault: usize, field: usize) -> MoistureRead
+        ensures { λ r. do ⌜ Measured (← ⟦Moisture::LEAST⟧ .entry) (← ⟦Moisture::GREATEST⟧ .entry) (v .0) fault field (r .value .0) (r .fault) ⌝ }
+    {
+        let read = measured(v, Moisture::LEAST, Moisture::GREATEST, fault, field);
+        MoistureRead {
+            value: Moisture(read.value),
+            fault: read.fault,
+        }
+    }
+}
+
+// The gas that a stage burns, in tenths of a cubic metre.
+pub struct CubicMetres(pub i64);
+
+pub struct CubicMetresRead {
+    pub value: CubicMetres,
+    pub fault: usize,
+}
+
+impl CubicMetres {
+    pub const LEAST: i64 = 0;
+
+    pub const GREATEST: i64 = 200_000;
+
+    // Checks the gas of a line `stage`.
+    pub fn checked(v: Number, fault: usize, field: usize) -> CubicMetresRead
+        ensures { λ r. do ⌜ Measured (← ⟦CubicMetres::LEAST⟧ .entry) (← ⟦CubicMetres::GREATEST⟧ .entry) (v .0) fault field (r .value .0) (r .fault) ⌝ }
+    {
+        let read = measured(v, CubicMetres::LEAST, CubicMetres::GREATEST, fault, field);
+        CubicMetresRead {
+            value: CubicMetres(read.value),
+            fault: read.fault,
+        }
+    }
+}
+
+// The gas that all stages burn, in tenths of a cubic metre.
+pub struct GasTotal(pub i64);
+
+pub struct GasTotalRead {
+    pub value: GasTotal,
+    pub fault: usize,
+}
+
+impl GasTotal {
+    pub const LEAST: i64 = 100;
+
+    pub const GREATEST: i64 = 200_000;
+
+    // Checks the sum of the gas of the lines `stage`.
+    pub fn checked(v: Number, fault: usize, field: usize) -> GasTotalRead
+        ensures { λ r. do ⌜ Measured (← ⟦GasTotal::LEAST⟧ .entry) (← ⟦GasTotal::GREATEST⟧ .entry) (v .0) fault field (r .value .0) (r .fault) ⌝ }
+    {
+        let read = measured(v, GasTotal::LEAST, GasTotal::GREATEST, fault, field);
+        GasTotalRead {
+            value: GasTotal(read.value),
+            fault: read.fault,
+        }
+    }
+}
+
+// Air for each part of theoretical air, in thousandths.
+pub struct ExcessAir(pub i64);
+
+pub struct ExcessAirRead {
+    pub value: ExcessAir,
+    pub fault: usize,
+}
+
+impl ExcessAir {
+    pub const LEAST: i64 = 1_000;
+
+    pub const GREATEST: i64 = 5_000;
+
+    // Checks the excess air of a line `stage`.
+    pub fn checked(v: Number, fault: usize, field: usize) -> ExcessAirRead
+        ensures { λ r. do ⌜ Measured (← ⟦ExcessAir::LEAST⟧ .entry) (← ⟦ExcessAir::GREATEST⟧ .entry) (v .0) fault field (r .value .0) (r .fault) ⌝ }
+    {
+        let read = measured(v, ExcessAir::LEAST, ExcessAir::GREATEST, fault, field);
+        ExcessAirRead {
+            value: ExcessAir(read.value),
+            fault: read.fault,
+        }
+    }
+}
+
+// Carbon monoxide in the dry flue gas, in 0.01 %.
+pub struct CarbonMonoxide(pub i64);
+
+pub struct CarbonMonoxideRead {
+    pub value: CarbonMonoxide,
+    pub fault: usize,
+}
+
+impl CarbonMonoxide {
+    pub const LEAST: i64 = 0;
+
+    pub const GREATEST: i64 = 1_000;
+
+    // Checks the carbon monoxide of a line `stage`.
+    pub fn checked(v: Number, fault: usize, field: usize) -> CarbonMonoxideRead
+        ensures { λ r. do ⌜ Measured (← ⟦CarbonMonoxide::LEAST⟧ .entry) (← ⟦CarbonMonoxide::GREATEST⟧ .entry) (v .0) fault field (r .value .0) (r .fault) ⌝ }
+    {
+        let read = measured(
+            v,
+            CarbonMonoxide::LEAST,
+            CarbonMonoxide::GREATEST,
+            fault,
+            field,
+        );
+        CarbonMonoxideRead {
+            value: CarbonMonoxide(read.value),
+            fault: read.fault,
+        }
+    }
+}

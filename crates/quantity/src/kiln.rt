@@ -1,0 +1,161 @@
+// The stages of a firing and the sections of the kiln.
+ghost use Rattle.quantity.specs.Checked.{Measured, Counted};
+use crate::Number;
+use crate::counted;
+use crate::measured;
+
+// A stage by its place among the lines `stage`.
+pub struct StageNumber(pub usize);
+
+pub struct StageNumberRead {
+    pub value: StageNumber,
+    pub fault: usize,
+}
+
+impl StageNumber {
+    pub const LEAST: usize = 1;
+
+    pub const GREATEST: usize = 12;
+
+    // Checks the stage of a line `wall`.
+    pub fn checked(v: Number, fault: usize, field: usize) -> StageNumberRead
+        ensures { λ r. do ⌜ Counted (← ⟦StageNumber::LEAST⟧ .entry) (← ⟦StageNumber::GREATEST⟧ .entry) (v .0) fault field (r .value .0) (r .fault) ⌝ }
+    {
+        let read = counted(v, StageNumber::LEAST, StageNumber::GREATEST, fault, field);
+        StageNumberRead {
+            value: StageNumber(read.count),
+            fault: read.fault,
+        }
+    }
+}
+
+// How long a stage lasts, in minutes.
+pub struct Minutes(pub i64);
+
+pub struct MinutesRead {
+    pub value: Minutes,
+    pub fault: usize,
+}
+
+impl Minutes {
+    pub const LEAST: i64 = 1;
+
+    pub const GREATEST: i64 = 2_880;
+
+    // Checks the minutes of a line `stage`.
+    pub fn checked(v: Number, fault: usize, field: usize) -> MinutesRead
+        ensures { λ r. do ⌜ Measured (← ⟦Minutes::LEAST⟧ .entry) (← ⟦Minutes::GREATEST⟧ .entry) (v .0) fault field (r .value .0) (r .fault) ⌝ }
+    {
+        let read = measured(v, Minutes::LEAST, Minutes::GREATEST, fault, field);
+        MinutesRead {
+            value: Minutes(read.value),
+            fault: read.fault,
+        }
+    }
+}
+
+// The number that a section goes by.
+pub struct SectionNumber(pub usize);
+
+pub struct SectionNumberRead {
+    pub value: SectionNumber,
+    pub fault: usize,
+}
+
+impl SectionNumber {
+    pub const LEAST: usize = 1;
+
+    pub const GREATEST: usize = 999;
+
+    // Checks the section number of a line `section` or `wall`.
+    pub fn checked(v: Number, fault: usize, field: usize) -> SectionNumberRead
+        ensures { λ r. do ⌜ Counted (← ⟦SectionNumber::LEAST⟧ .entry) (← ⟦SectionNumber::GREATEST⟧ .entry) (v .0) fault field (r .value .0) (r .fault) ⌝ }
+    {
+        let read = counted(
+            v,
+            SectionNumber::LEAST,
+            SectionNumber::GREATEST,
+            fault,
+            field,
+        );
+        SectionNumberRead {
+            value: SectionNumber(read.count),
+            fault: read.fault,
+        }
+    }
+}
+
+// Where a section lies: 1 roof, 2 wall, 3 floor.
+pub struct Place(pub usize);
+
+pub struct PlaceRead {
+    pub value: Place,
+    pub fault: usize,
+}
+
+impl Place {
+    pub const LEAST: usize = 1;
+
+    pub const GREATEST: usize = 3;
+
+    // Checks the place of a line `section`.
+    pub fn checked(v: Number, fault: usize, field: usize) -> PlaceRead
+        ensures { λ r. do ⌜ Counted (← ⟦Place::LEAST⟧ .entry) (← ⟦Place::GREATEST⟧ .entry) (v .0) fault field (r .value .0) (r .fault) ⌝ }
+    {
+        let read = counted(v, Place::LEAST, Place::GREATEST, fault, field);
+        PlaceRead {
+            value: Place(read.count),
+            fault: read.fault,
+        }
+    }
+}
+
+// The surface of a section, in 0.01 square metres.
+pub struct Area(pub i64);
+
+pub struct AreaRead {
+    pub value: Area,
+    pub fault: usize,
+}
+
+impl Area {
+    pub const LEAST: i64 = 1;
+
+    pub const GREATEST: i64 = 20_000;
+
+    // Checks the area of a line `section`.
+    pub fn checked(v: Number, fault: usize, field: usize) -> AreaRead
+        ensures { λ r. do ⌜ Measured (← ⟦Area::LEAST⟧ .entry) (← ⟦Area::GREATEST⟧ .entry) (v .0) fault field (r .value .0) (r .fault) ⌝ }
+    {
+        let read = measured(v, Area::LEAST, Area::GREATEST, fault, field);
+        AreaRead {
+            value: Area(read.value),
+            fault: read.fault,
+        }
+    }
+}
+
+// A material by its code in table A.2, or 0 where the sheet gives c.
+pub struct Material(pub usize);
+
+pub struct MaterialRead {
+    pub value: Material,
+    pub fault: usize,
+}
+
+impl Material {
+    pub const LEAST: usize = 0;
+
+    pub const GREATEST: usize = 18;
+
+    // Checks the material of a line `ware`, `setter` or `part`.
+    pub fn checked(v: Number, fault: usize, field: usize) -> MaterialRead
+        ensures { λ r. do ⌜ Counted (← ⟦Material::LEAST⟧ .entry) (← ⟦Material::GREATEST⟧ .entry) (v .0) fault field (r .value .0) (r .fault) ⌝ }
+    {
+        let read = counted(v, Material::LEAST, Material::GREATEST, fault, field);
+        MaterialRead {
+            value: Material(read.count),
+            fault: read.fault,
+        }
+    }
+}
