@@ -1,0 +1,6 @@
+pub mod Scanning
+pub mod Decimal
+pub mod Reading
+pub mod Writing
+pub mod Signed
+pub mod Marked

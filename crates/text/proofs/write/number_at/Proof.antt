@@ -1,0 +1,54 @@
+-- `number_at` meets its contract: by the sign its text is `-` and digits, or digits alone, and so it is written.
+-- Assumes nothing.
+use mathlib.Core.Path.{_≡_, ap}
+use mathlib.Core.List.{_++_}
+use native.Mathlib.Omega.{arith}
+use lib.ListN.{length}
+use borrow.Author.Needs.{needs}
+use Rattle.text.specs.Bytes.{bytes}
+use Rattle.text.specs.Decimal.{digits, decimal}
+use Rattle.text.proofs.Signed.{minus-text, plain-text}
+use Rattle.text.proofs.Writing.{next}
+use Rattle.text.proofs.write.number_at.Statement.{statement}
+use Rattle.text.proofs.write.number_at.Tie as tie
+
+minus : (c : tie.Then1) → decimal (c .before .before .before .args .z) ≡ bytes "-" ++ digits (c .before .magnitude .result)
+minus c = minus-text _ _ (c .before .before .before .fits .z) (c .before .magnitude .ensures) (c .if1 .taken)
+
+plain : (c : tie.Else1) → decimal (c .before .before .before .args .z) ≡ digits (c .before .magnitude .result)
+plain c = plain-text _ _ (c .before .before .before .fits .z) (c .before .magnitude .ensures) (c .if1 .left)
+
+bytes-at-requires : tie.Need-bytes-at-requires
+bytes-at-requires c κs = omega (arith, ap length (minus (c .before .before)), c .before .before .before .before .before .pre)
+
+digits-at-requires : tie.Need-digits-at-requires
+digits-at-requires c κs =
+    let t = c .before .before .before .before .before .before in
+    let b = c .before .before .before .bytes-at in
+    omega (arith, ap length (minus t), t .before .before .before .pre, b .ensures .ends, b .kept .0)
+
+returns : tie.Need-returns
+returns c =
+    let d = c .before .before in
+    let b = d .before .before .before .before in
+    rw (minus (b .before .before .before)) (next (b .bytes-at .ensures) (d .digits-at .ensures))
+
+digits-at-requires-2 : tie.Need-digits-at-requires-2
+digits-at-requires-2 c κs = omega (arith, ap length (plain (c .before)), c .before .before .before .before .pre)
+
+returns-2 : tie.Need-returns-2
+returns-2 c = rw (plain (c .before .before .before .before)) (c .before .before .digits-at2 .ensures)
+
+pub number-at-spec : {M : Type 1} → statement M
+number-at-spec =
+    tie.close
+    (tie.spec
+    (λ c κs. search needs)
+    (λ c. search needs)
+    bytes-at-requires
+    digits-at-requires
+    (λ c. search needs)
+    returns
+    digits-at-requires-2
+    (λ c. search needs)
+    returns-2)

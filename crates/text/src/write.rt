@@ -1,0 +1,107 @@
+// Writing lines, numbers and bytes into the part of a lent slice that begins at a place.
+ghost use mathlib.Core.Path.{_≡_};
+ghost use Prim.Native.Nat.{_+_, _≤_};
+ghost use lib.ListN.{length};
+ghost use lib.IntN.{natAbs};
+ghost use Rattle.text.specs.Decimal.{digits, decimal, line};
+ghost use Rattle.text.specs.Writing.{Written};
+
+// A number without its sign; the least i64 has one too.
+pub fn magnitude(z: i64) -> u64
+    ensures { λ r. ⌜ r ≡ natAbs z ⌝ }
+{
+    if z < 0 {
+        (-(z + 1)) as u64 + 1
+    } else {
+        z as u64
+    }
+}
+
+// How much room a number's text takes.
+pub fn width(z: i64) -> usize
+    ensures { λ r. ⌜ r ≡ length (decimal z) ⌝ }
+{
+    let n = digit_count(magnitude(z));
+    if z < 0 { n + 1 } else { n }
+}
+
+// How many digits a number has.
+fn digit_count(n: u64) -> usize
+    ensures { λ r. ⌜ r ≡ length (digits n) ⌝ }
+{
+    let mut k = 1;
+    let mut rest = n;
+    while 10 <= rest {
+        rest /= 10;
+        k += 1;
+    }
+    k
+}
+
+// Puts a line of the report, `key=z` and LF, at a place, and answers where it ends.
+pub fn line_at(out: &mut [u8], at: usize, key: &[u8], z: i64) -> usize
+    requires { ⌜ at + length (line (now key) z) ≤ length (now out) ⌝ }
+    ensures { λ r. ⌜ Written at (line (now (key .entry)) z) (now (out .entry)) (now (out .exit)) r ⌝ }
+{
+    let a = bytes_at(out, at, key);
+    let b = bytes_at(out, a, b"=");
+    let c = number_at(out, b, z);
+    bytes_at(out, c, b"\n")
+}
+
+// Puts a number's text at a place, and answers where it ends.
+pub fn number_at(out: &mut [u8], at: usize, z: i64) -> usize
+    requires { ⌜ at + length (decimal z) ≤ length (now out) ⌝ }
+    ensures { λ r. ⌜ Written at (decimal z) (now (out .entry)) (now (out .exit)) r ⌝ }
+{
+    let n = magnitude(z);
+    if z < 0 {
+        let next = bytes_at(out, at, b"-");
+        return digits_at(out, next, n);
+    }
+    digits_at(out, at, n)
+}
+
+// Puts digits at a place, and answers where they end.
+fn digits_at(out: &mut [u8], at: usize, n: u64) -> usize
+    requires { ⌜ at + length (digits n) ≤ length (now out) ⌝ }
+    ensures { λ r. ⌜ Written at (digits n) (now (out .entry)) (now (out .exit)) r ⌝ }
+{
+    at + put_digits(&mut out[at..], n)
+}
+
+// Puts digits at the front, and answers how many there are.
+fn put_digits(out: &mut [u8], n: u64) -> usize
+    requires { ⌜ length (digits n) ≤ length (now out) ⌝ }
+    ensures { λ r. ⌜ Written 0 (digits n) (now (out .entry)) (now (out .exit)) r ⌝ }
+{
+    if n < 10 {
+        out[0] = (48 + n) as u8;
+        1
+    } else {
+        let k = put_digits(out, n / 10);
+        out[k] = (48 + n % 10) as u8;
+        k + 1
+    }
+}
+
+// Puts bytes at a place, and answers where they end.
+pub fn bytes_at(out: &mut [u8], at: usize, src: &[u8]) -> usize
+    requires { ⌜ at + length (now src) ≤ length (now out) ⌝ }
+    ensures { λ r. ⌜ Written at (now (src .entry)) (now (out .entry)) (now (out .exit)) r ⌝ }
+{
+    at + put_bytes(&mut out[at..], src)
+}
+
+// Puts bytes at the front, and answers how many there are.
+fn put_bytes(out: &mut [u8], src: &[u8]) -> usize
+    requires { ⌜ length (now src) ≤ length (now out) ⌝ }
+    ensures { λ r. ⌜ Written 0 (now (src .entry)) (now (out .entry)) (now (out .exit)) r ⌝ }
+{
+    let mut i = 0;
+    while i < src.len() {
+        out[i] = src[i];
+        i += 1;
+    }
+    i
+}
