@@ -1,0 +1,3 @@
+pub mod Firing
+pub mod Refusals
+pub mod Shown

@@ -1,0 +1,43 @@
+-- What the clerk hears: document 01's number of each refusal, and the field it names.
+use Prim.Native.Nat.{ℕ}
+use Rattle.sheet.specs.declared.Refusal.{Refusal}
+use Rattle.sheet.specs.declared.Refusal.the-variants.{Accepted, TooLong, NoLineFeed, WrongKey, WrongCount, NotANumber, Surplus, Outside, Material, Shares, SectionTwice, NoSuchWall, ReadTwice, Missing, Colder, GasTotal, NoRoom}
+
+abbrev pub number : Refusal → ℕ
+number Accepted = 0
+number TooLong = 1
+number NoLineFeed = 2
+number WrongKey = 2
+number WrongCount = 2
+number (NotANumber i) = 2
+number Surplus = 2
+number (Outside i) = 3
+number (Material i) = 4
+number Shares = 5
+number SectionTwice = 6
+number NoSuchWall = 6
+number ReadTwice = 7
+number Missing = 8
+number Colder = 9
+number GasTotal = 10
+number NoRoom = 11
+
+-- counted from 1; 0 where the whole line, or the whole sheet, is meant
+abbrev pub field : Refusal → ℕ
+field Accepted = 0
+field TooLong = 0
+field NoLineFeed = 0
+field WrongKey = 0
+field WrongCount = 0
+field (NotANumber i) = i
+field Surplus = 0
+field (Outside i) = i
+field (Material i) = i
+field Shares = 0
+field SectionTwice = 0
+field NoSuchWall = 0
+field ReadTwice = 0
+field Missing = 0
+field Colder = 0
+field GasTotal = 0
+field NoRoom = 0

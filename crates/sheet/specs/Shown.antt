@@ -1,0 +1,114 @@
+-- What the code's structs show: the firing whose lines their arrays begin with, and whose readings stand by section and stage.
+use Prim.Native.Nat.{ℕ, suc, _+_, _*_, _-_}
+use mathlib.Core.Path.{_≡_}
+use mathlib.Core.Bool.{Bool, true, false, cond, _&&_}
+use mathlib.Core.List.{List, [], _∷_, map}
+use lib.ListN.{getD, take, set, replicate}
+use lib.IntN.{ℤ, pos, natAbs}
+use lib.Signed.{leZ}
+use Rattle.quantity.specs.declared.gas.Share.{Share}
+use Rattle.sheet.specs.declared.Stuff.{Stuff as Stuffˢ}
+use Rattle.sheet.specs.declared.Fuel.{Fuel as Fuelˢ}
+use Rattle.sheet.specs.declared.Ware.{Ware as Wareˢ}
+use Rattle.sheet.specs.declared.Water.{Water as Waterˢ}
+use Rattle.sheet.specs.declared.Stage.{Stage as Stageˢ}
+use Rattle.sheet.specs.declared.Setter.{Setter as Setterˢ}
+use Rattle.sheet.specs.declared.Part.{Part as Partˢ}
+use Rattle.sheet.specs.declared.Section.{Section as Sectionˢ}
+use Rattle.sheet.specs.declared.Reading.{Reading as Readingˢ}
+use Rattle.sheet.specs.declared.Head.{Head as Headˢ}
+use Rattle.sheet.specs.declared.Sheet.{Sheet as Sheetˢ}
+use Rattle.sheet.specs.Firing.{Stuff, Fuel, Gas, Ware, Water, Stage, Setter, Part, Section, Wall, Firing}
+
+-- ---- a struct's record
+abbrev pub stuff : Stuffˢ → Stuff
+stuff x = record { material = pos (x .material .0); c = x .c .0 }
+
+abbrev pub fuel : Fuelˢ → Fuel
+fuel x = record { heating = x .heating .0; temperature = x .temperature .0 }
+
+-- the shares stand in the gas line's order
+abbrev pub share : List Share → ℕ → ℤ
+share l i = getD (map (λ x. x .0) l) i (pos 0)
+
+abbrev pub gas : List Share → Gas
+gas l = record {
+  h2 = share l 0;
+  n2 = share l 1;
+  co = share l 2;
+  o2 = share l 3;
+  h2o = share l 4;
+  co2 = share l 5;
+  ch4 = share l 6;
+  c2h4 = share l 7;
+  c2h6 = share l 8;
+  c3h8 = share l 9;
+  c4h10 = share l 10;
+  h2s = share l 11;
+  so2 = share l 12;
+}
+
+abbrev pub ware : Wareˢ → Ware
+ware x = record { green = x .green .0; entry = x .entry .0; highest = x .highest .0; stuff = stuff (x .stuff) }
+
+abbrev pub water : Waterˢ → Water
+water x = record { adsorbed = x .adsorbed .0; crystal = x .crystal .0; flue = x .flue .0 }
+
+abbrev pub stage : Stageˢ → Stage
+stage x = record { gas = x .gas .0; excess = x .excess .0; flue = x .flue .0; co = x .co .0; minutes = x .minutes .0 }
+
+abbrev pub setter : Setterˢ → Setter
+setter x = record { mass = x .mass .0; entry = x .entry .0; stuff = stuff (x .stuff) }
+
+abbrev pub part : Partˢ → Part
+part x = record { mass = x .mass .0; stuff = stuff (x .stuff); before = x .before .0; firing = x .firing .0 }
+
+abbrev pub section : Sectionˢ → Section
+section x = record { number = pos (x .number .0); place = pos (x .place .0); area = x .area .0 }
+
+-- the firing that a struct shows, but for the order in which its walls were called
+abbrev pub firing : Sheetˢ → List Wall → Firing
+firing x walls = record {
+  number = x .head .firing .0;
+  product = x .head .product .0;
+  ambient = x .head .ambient .0;
+  fuel = fuel (x .head .fuel);
+  gas = gas (x .head .gas);
+  moisture = x .head .moisture .0;
+  ware = ware (x .head .ware);
+  water = water (x .head .water);
+  clay = x .head .clay .0;
+  stages = map stage (take (x .stages .count .0) (x .stages .lines));
+  setters = map setter (take (x .setters .count .0) (x .setters .lines));
+  parts = map part (take (x .parts .count .0) (x .parts .lines));
+  sections = map section (take (x .sections .count .0) (x .sections .lines));
+  walls = walls;
+}
+
+-- ---- the readings by section and stage
+abbrev pub same : ℤ → ℤ → Bool
+same a b = leZ a b && leZ b a
+
+-- how many sections stand before the one with a number
+unfoldable pub before : ℤ → List Section → ℕ
+before n [] = 0
+before n (x ∷ l) = cond (same n (x .number)) 0 (suc (before n l))
+
+abbrev pub cell : List Section → Wall → ℕ
+cell l w = before (w .section) l * 12 + (natAbs (w .stage) - 1)
+
+abbrev pub reading : Wall → Readingˢ
+reading w = record { read = true; surface = record { 0 = w .surface }; air = record { 0 = w .air } }
+
+abbrev pub unread : Readingˢ
+unread = record { read = false; surface = record { 0 = pos 0 }; air = record { 0 = pos 0 } }
+
+-- the walls laid into their cells, one after the other
+unfoldable pub laid : List Section → List Readingˢ → List Wall → List Readingˢ
+laid l cells [] = cells
+laid l cells (w ∷ ws) = laid l (set cells (cell l w) (reading w)) ws
+
+-- WHAT THE STRUCT OF A FIRING HOLDS
+pub record Shows (x : Sheetˢ) (f : Firing) : Type 0 where
+  pub lines : f ≡ firing x (f .walls)
+  pub readings : x .readings ≡ laid (f .sections) (replicate 144 unread) (f .walls)

@@ -1,0 +1,149 @@
+// A firing as its sheet gives it, line by line, and the reasons for which a sheet is refused.
+use quantity::gas::CarbonMonoxide;
+use quantity::gas::CubicMetres;
+use quantity::gas::ExcessAir;
+use quantity::gas::Moisture;
+use quantity::gas::Share;
+use quantity::heat::HeatingValue;
+use quantity::heat::SpecificHeat;
+use quantity::kiln::Area;
+use quantity::kiln::Material;
+use quantity::kiln::Minutes;
+use quantity::kiln::Place;
+use quantity::kiln::SectionNumber;
+use quantity::mass::Kilos;
+use quantity::mass::Product;
+use quantity::sheet::FiringNumber;
+use quantity::sheet::PartCount;
+use quantity::sheet::SectionCount;
+use quantity::sheet::SetterCount;
+use quantity::sheet::StageCount;
+use quantity::temperature::Ambient;
+use quantity::temperature::Degrees;
+use quantity::temperature::FlueTemperature;
+use quantity::temperature::FuelTemperature;
+use quantity::temperature::NearAir;
+use quantity::temperature::SurfaceTemperature;
+
+// What the clerk hears: why a sheet is refused, or that it is not. A field counts from 1.
+pub enum Refusal {
+    Accepted,
+    TooLong,
+    NoLineFeed,
+    WrongKey,
+    WrongCount,
+    NotANumber(usize),
+    Surplus,
+    Outside(usize),
+    Material(usize),
+    Shares,
+    SectionTwice,
+    NoSuchWall,
+    ReadTwice,
+    Missing,
+    Colder,
+    GasTotal,
+    NoRoom,
+}
+
+// What a thing is made of; c counts for material 0 only.
+pub struct Stuff {
+    pub material: Material,
+    pub c: SpecificHeat,
+}
+
+pub struct Fuel {
+    pub heating: HeatingValue,
+    pub temperature: FuelTemperature,
+}
+
+pub struct Ware {
+    pub green: Kilos,
+    pub entry: Degrees,
+    pub highest: Degrees,
+    pub stuff: Stuff,
+}
+
+pub struct Water {
+    pub adsorbed: Kilos,
+    pub crystal: Kilos,
+    pub flue: FlueTemperature,
+}
+
+pub struct Stage {
+    pub gas: CubicMetres,
+    pub excess: ExcessAir,
+    pub flue: FlueTemperature,
+    pub co: CarbonMonoxide,
+    pub minutes: Minutes,
+}
+
+pub struct Setter {
+    pub mass: Kilos,
+    pub entry: Degrees,
+    pub stuff: Stuff,
+}
+
+pub struct Part {
+    pub mass: Kilos,
+    pub stuff: Stuff,
+    pub before: Degrees,
+    pub firing: Degrees,
+}
+
+pub struct Section {
+    pub number: SectionNumber,
+    pub place: Place,
+    pub area: Area,
+}
+
+// What was measured at a section in a stage, if it was.
+pub struct Reading {
+    pub read: bool,
+    pub surface: SurfaceTemperature,
+    pub air: NearAir,
+}
+
+// The lines above the stages.
+pub struct Head {
+    pub firing: FiringNumber,
+    pub product: Product,
+    pub ambient: Ambient,
+    pub fuel: Fuel,
+    pub gas: [Share; 13],
+    pub moisture: Moisture,
+    pub ware: Ware,
+    pub water: Water,
+    pub clay: Kilos,
+}
+
+// A block: how many lines it has, and the lines, of which those beyond the count mean nothing.
+pub struct Stages {
+    pub count: StageCount,
+    pub lines: [Stage; 12],
+}
+
+pub struct Setters {
+    pub count: SetterCount,
+    pub lines: [Setter; 32],
+}
+
+pub struct Parts {
+    pub count: PartCount,
+    pub lines: [Part; 32],
+}
+
+pub struct Sections {
+    pub count: SectionCount,
+    pub lines: [Section; 12],
+}
+
+// The readings stand by section and stage: that of the i-th section in the j-th stage at 12 i + j, both from 0.
+pub struct Sheet {
+    pub head: Head,
+    pub stages: Stages,
+    pub setters: Setters,
+    pub parts: Parts,
+    pub sections: Sections,
+    pub readings: [Reading; 144],
+}
