@@ -1,0 +1,15 @@
+pub mod Cases
+pub mod Pieces
+pub mod Judged
+pub mod Blocks
+pub mod Sizes
+pub mod Whole
+pub mod Rules
+pub mod Lists
+pub mod Above
+pub mod Forms
+pub mod Rows
+pub mod Kept
+pub mod Limits
+pub mod Document01
+pub mod Example

@@ -1,0 +1,42 @@
+-- Some, every and no two of a list: of what follows from it, of one more, and of the things a list was made from.
+-- Assumes nothing.
+use mathlib.Core.List.{List, [], _∷_, _++_, map}
+use mathlib.Core.Logic.{_⊎_, inl, inr, ⊎-elim}
+use Rattle.lines.specs.Rules.{Some, Every, NoTwo}
+
+module _ {A : Type 0} where
+  pub every-imp : {P Q : A → Type 0} → ((x : A) → P x → Q x) → (xs : List A) → Every P xs → Every Q xs
+  every-imp h [] k = tt
+  every-imp h (x ∷ xs) k = (h x (k .0), every-imp h xs (k .1))
+
+  pub every-with : {P Q R : A → Type 0} → ((x : A) → P x → Q x → R x) → (xs : List A) → Every P xs → Every Q xs → Every R xs
+  every-with h [] k m = tt
+  every-with h (x ∷ xs) k m = (h x (k .0) (m .0), every-with h xs (k .1) (m .1))
+
+  -- one of a list with one more is one of the list or this one
+  module _ (P : A → Type 0) (x : A) where
+    pub some-before : (xs : List A) → Some P xs → Some P (xs ++ (x ∷ []))
+    some-before [] s = absurd s
+    some-before (y ∷ xs) s = ⊎-elim (λ p. inl p) (λ p. inr (some-before xs p)) s
+
+    pub some-last : (xs : List A) → P x → Some P (xs ++ (x ∷ []))
+    some-last [] p = inl p
+    some-last (y ∷ xs) p = inr (some-last xs p)
+
+    pub some-either : (xs : List A) → Some P (xs ++ (x ∷ [])) → Some P xs ⊎ P x
+    some-either [] s = ⊎-elim (λ p. inr p) (λ p. absurd p) s
+    some-either (y ∷ xs) s = ⊎-elim (λ p. inl (inl p)) (λ p. ⊎-elim (λ q. inl (inr q)) (λ q. inr q) (some-either xs p)) s
+
+-- what holds of a list that was made from another one holds of the other
+module _ {A B : Type 0} (to : A → B) where
+  pub every-made : (P : B → Type 0) (xs : List A) → Every P (map to xs) → Every (λ x. P (to x)) xs
+  every-made P [] k = tt
+  every-made P (x ∷ xs) k = (k .0, every-made P xs (k .1))
+
+  pub some-made : (P : B → Type 0) (xs : List A) → Some P (map to xs) → Some (λ x. P (to x)) xs
+  some-made P [] s = s
+  some-made P (x ∷ xs) s = ⊎-elim (λ p. inl p) (λ p. inr (some-made P xs p)) s
+
+  pub no-two-made : (R : B → B → Type 0) (S : A → A → Type 0) → ((x y : A) → S x y → R (to x) (to y)) → (xs : List A) → NoTwo R (map to xs) → NoTwo S xs
+  no-two-made R S h [] k = tt
+  no-two-made R S h (x ∷ xs) k = (every-imp (λ y n r. n (h y x r)) xs (every-made (λ y. ¬ R y (to x)) xs (k .0)), no-two-made R S h xs (k .1))
