@@ -1,0 +1,81 @@
+-- The pieces of a line: the text before the first comma is the first, and those behind it are the others.
+-- Assumes nothing.
+use mathlib.Core.Path.{_≡_, refl, sym, ap, _∙_}
+use mathlib.Core.Bool.{Bool, true, false, cond}
+use mathlib.Core.List.{List, [], _∷_, _++_}
+use Prim.Native.Nat.{ℕ, suc, _+_, _≤_, _<_}
+use native.Mathlib.Omega.{arith}
+use lib.ListN.{length, drop}
+use lib.Dec.{leb, eqb}
+use borrow.Author.Tests.{eq-eqb, le-leb, leb-true, leb-false}
+use Rattle.text.specs.Scanning.{upTo, find, count}
+use Rattle.text.proofs.Scanning.{upTo-clear, find-most, found, not-found}
+use Rattle.lines.specs.Schema.{push, pieces}
+
+-- a text without c is passed over
+pub upTo-past : (c : ℕ) (p rest : List ℕ) → count p c ≡ 0 → upTo c (p ++ rest) ≡ p ++ upTo c rest
+unfolding upTo count
+upTo-past c [] rest z = refl
+upTo-past c (b ∷ p) rest z = here (eqb b c) (upTo-past c p rest) z
+  where
+    here : (t : Bool) → (count p c ≡ 0 → upTo c (p ++ rest) ≡ p ++ upTo c rest) → cond t (suc (count p c)) (count p c) ≡ 0 → cond t [] (b ∷ upTo c (p ++ rest)) ≡ b ∷ (p ++ upTo c rest)
+    here true q z = absurd (omega arith)
+    here false q z = rw (q z)
+
+pub pieces-one : (c : ℕ) (p : List ℕ) → count p c ≡ 0 → pieces c p ≡ p ∷ []
+unfolding pieces count
+pieces-one c [] z = refl
+pieces-one c (b ∷ p) z = here (eqb b c) (pieces-one c p) z
+  where
+    here : (t : Bool) → (count p c ≡ 0 → pieces c p ≡ p ∷ []) → cond t (suc (count p c)) (count p c) ≡ 0 → cond t ([] ∷ pieces c p) (push b (pieces c p)) ≡ (b ∷ p) ∷ []
+    here true q z = absurd (omega arith)
+    here false q z = rw (q z)
+
+pub pieces-more : (c : ℕ) (p rest : List ℕ) → count p c ≡ 0 → pieces c (p ++ (c ∷ rest)) ≡ p ∷ pieces c rest
+unfolding pieces count
+pieces-more c [] rest z = rw (eq-eqb c c refl)
+pieces-more c (b ∷ p) rest z = here (eqb b c) (pieces-more c p rest) z
+  where
+    here : (t : Bool) → (count p c ≡ 0 → pieces c (p ++ (c ∷ rest)) ≡ p ∷ pieces c rest) → cond t (suc (count p c)) (count p c) ≡ 0 →
+        cond t ([] ∷ pieces c (p ++ (c ∷ rest))) (push b (pieces c (p ++ (c ∷ rest)))) ≡ (b ∷ p) ∷ pieces c rest
+    here true q z = absurd (omega arith)
+    here false q z = rw (q z)
+
+pub pieces-count : (c : ℕ) (v : List ℕ) → length (pieces c v) ≡ suc (count v c)
+unfolding pieces count
+pieces-count c [] = refl
+pieces-count c (b ∷ v) = here (eqb b c) (pieces c v) (pieces-count c v)
+  where
+    here : (t : Bool) (ps : List (List ℕ)) → length ps ≡ suc (count v c) → length (cond t ([] ∷ ps) (push b ps)) ≡ suc (cond t (suc (count v c)) (count v c))
+    here true ps q = ap suc q
+    here false [] q = absurd (omega arith)
+    here false (p ∷ ps) q = q
+
+-- the pieces from a place on; behind the end there are none
+unfoldable pub left : List ℕ → ℕ → List (List ℕ)
+left v at = cond (leb at (length v)) (pieces 44 (drop at v)) []
+
+pub left-all : (v : List ℕ) → left v 0 ≡ pieces 44 v
+unfolding left
+left-all v = rw (le-leb 0 (length v) (omega arith))
+
+-- the piece at a place where one is left: it ends at e, and the others stand behind it
+pub record Piece (v : List ℕ) (at e : ℕ) : Type 0 where
+  pub most : e ≤ length v
+  pub first : left v at ≡ upTo 44 (drop at v) ∷ left v (e + 1)
+
+pub next-piece : (v : List ℕ) (at e : ℕ) → e ≡ find v at 44 → 0 < length (left v at) → Piece v at e
+unfolding left
+next-piece v at e q p = rw q (here (leb at (length v)) refl (leb (find v at 44 + 1) (length v)) refl p)
+  where
+    text : List ℕ
+    text = upTo 44 (drop at v)
+
+    here : (t : Bool) → leb at (length v) ≡ t → (u : Bool) → leb (find v at 44 + 1) (length v) ≡ u → 0 < length (cond t (pieces 44 (drop at v)) []) → Piece v at (find v at 44)
+    here true h true g p =
+        let l = leb-true (find v at 44 + 1) (length v) g in
+        record { most = omega arith; first = rw (h, g) (ap (pieces 44) (found v at 44 (omega arith)) ∙ pieces-more 44 text (drop (find v at 44 + 1) v) (upTo-clear 44 (drop at v))) }
+    here true h false g p =
+        let l = leb-false (find v at 44 + 1) (length v) g in
+        record { most = find-most v at 44 (leb-true at (length v) h); first = rw (h, g) (ap (pieces 44) (sym (not-found v at 44 (omega arith))) ∙ pieces-one 44 text (upTo-clear 44 (drop at v))) }
+    here false h u g p = absurd (omega arith)

@@ -1,0 +1,151 @@
+-- `fields` meets its contract: reading on from each place, with the numbers stored before it, gives what reading the whole
+-- gives. Assumes nothing.
+use mathlib.Core.Path.{_≡_, refl, sym, ap, _∙_}
+use mathlib.Core.Logic.{⊎-elim}
+use Prim.Native.Nat.{_+_, _-_}
+use native.Mathlib.Omega.{arith}
+use lib.ListN.{length, drop}
+use mir.Syntax.{w64}
+use mir.ValLaws.{toZ-ofZ}
+use borrow.Author.Needs.{needs}
+use borrow.Author.Tests.{eqb-true, eqb-false, not-true, not-false}
+use Rattle.text.specs.Number.{numberOf}
+use Rattle.text.specs.Scanning.{upTo}
+use Rattle.text.proofs.Scanning.{piece}
+use Rattle.lines.specs.Schema.{pieces}
+use Rattle.line.specs.Line.{zeros}
+use Rattle.line.specs.Fields.{fieldsOf}
+use Rattle.line.proofs.Pieces.{left, left-all, Piece, next-piece, pieces-count}
+use Rattle.line.proofs.Fields.{fields-wrong, fields-done, fields-bad, fields-more}
+use Rattle.line.proofs.careful.fields.Statement.{statement}
+use Rattle.line.proofs.careful.fields.Tie as tie
+
+abbrev Inv-loop : tie.InvT-loop
+Inv-loop v n next values₀ at₀ i₀ values at i =
+    (fieldsOf n next i values (left v at) ≡ fieldsOf n next 0 zeros (pieces 44 v)) × (i + length (left v at) ≡ n)
+
+abbrev μ-loop : tie.MeasureT-loop
+μ-loop v n next values₀ at₀ i₀ values at i = n - i
+
+step : (c : tie.After-find Inv-loop μ-loop) → Piece (c .before .before .before .before .before .before .before .args .v .now) (c .before .before .loop .at) (c .find .result)
+step c = next-piece _ _ _ (c .find .ensures) (omega arith)
+
+-- what `number` was asked
+text : (c : tie.After-number Inv-loop μ-loop) → c .number .result ≡ numberOf (upTo 44 (drop (c .before .before .before .before .loop .at) (c .before .before .before .before .before .before .before .before .before .args .v .now)))
+text c = c .number .ensures ∙ ap numberOf (rw (c .before .before .find .ensures) (piece _ _ 44))
+
+count-requires : tie.Need-count-requires Inv-loop μ-loop
+count-requires c κs = search needs
+
+sub-if2 : tie.Need-sub-if2 Inv-loop μ-loop
+sub-if2 c = search needs
+
+refuse-requires : tie.Need-refuse-requires Inv-loop μ-loop
+refuse-requires c κs = search needs
+
+returns : tie.Need-returns Inv-loop μ-loop
+returns c =
+    let a = c .before .before .before .args in
+    let v = a .v .now in
+    c .refuse .ensures
+    ∙ sym
+    (fields-wrong _ _ 0 _ (pieces 44 v)
+    (λ e. ⊎-elim (λ w. omega (arith, pieces-count 44 v)) (λ w. eqb-false (w .1 .result) (a .n - 1) (not-true _ (w .2 .taken)) (omega (arith, pieces-count 44 v, w .1 .ensures))) (c .before .if1 .came)))
+
+loop-holds : tie.Need-loop-holds Inv-loop μ-loop
+loop-holds c =
+    let a = c .before .before .before .before .args in
+    let v = a .v .now in
+    rw (left-all v) (refl, omega (arith, pieces-count 44 v, c .before .count .ensures, eqb-true (c .before .count .result) (a .n - 1) (not-false _ (c .if2 .left))))
+
+find-requires : tie.Need-find-requires Inv-loop μ-loop
+find-requires c κs = search needs
+
+sub-number : tie.Need-sub-number Inv-loop μ-loop
+sub-number c = search needs
+
+part-number-start : tie.Need-part-number-start Inv-loop μ-loop
+part-number-start c = search needs
+
+part-number-end : tie.Need-part-number-end Inv-loop μ-loop
+part-number-end c = omega (arith, step c)
+
+number-requires : tie.Need-number-requires Inv-loop μ-loop
+number-requires c κs = search needs
+
+enum-known-z : tie.Need-enum-known-z Inv-loop μ-loop
+enum-known-z c = search needs
+
+mul-values : tie.Need-mul-values Inv-loop μ-loop
+mul-values c = search needs
+
+array-set-from-values : tie.Need-array-set-from-values Inv-loop μ-loop
+array-set-from-values c = search needs
+
+enum-told : tie.Need-enum-told Inv-loop μ-loop
+enum-told c = search needs
+
+add-t23 : tie.Need-add-t23 Inv-loop μ-loop
+add-t23 c = search needs
+
+refuse-requires-2 : tie.Need-refuse-requires-2 Inv-loop μ-loop
+refuse-requires-2 c κs = search needs
+
+returns-2 : tie.Need-returns-2 Inv-loop μ-loop
+returns-2 c =
+    let p = c .before .before .before in
+    let s = step (p .before .before) .first in
+    let l = p .before .before .before .before .loop in
+    c .refuse2 .ensures ∙ sym (fields-bad _ _ _ _ _ _ (rw s at (l .inv .1)) (sym (text p) ∙ c .before .enum-told .given .1)) ∙ rw s at (l .inv .0)
+
+add-at : tie.Need-add-at Inv-loop μ-loop
+add-at c = omega (arith, step (c .before .before .before .before .before))
+
+add-i : tie.Need-add-i Inv-loop μ-loop
+add-i c = search needs
+
+loop-less : tie.Need-loop-less Inv-loop μ-loop
+loop-less c = search needs
+
+loop-again : tie.Need-loop-again Inv-loop μ-loop
+loop-again c =
+    let p = c .before .before .before in
+    let s = step (p .before .before) .first in
+    let l = p .before .before .before .before .loop in
+    let z = c .before .z .given .0 .0 in
+    let b = toZ-ofZ w64 z (record { sfits = omega (arith, c .known-told .given) }) in
+    rw b (sym (fields-more _ _ _ _ _ _ z (sym (text p) ∙ c .before .z .given .1)) ∙ rw s at (l .inv .0), omega (arith, ap length s))
+
+returns-3 : tie.Need-returns-3 Inv-loop μ-loop
+returns-3 c =
+    let l = c .before .loop in
+    sym (fields-done _ _ _ _ _ (omega arith) (omega arith)) ∙ l .inv .0
+
+pub fields-spec : {M : Type 1} → statement M
+fields-spec =
+    tie.close
+    (tie.spec
+    Inv-loop
+    μ-loop
+    count-requires
+    sub-if2
+    refuse-requires
+    returns
+    loop-holds
+    find-requires
+    sub-number
+    part-number-start
+    part-number-end
+    number-requires
+    enum-known-z
+    mul-values
+    array-set-from-values
+    enum-told
+    add-t23
+    refuse-requires-2
+    returns-2
+    add-at
+    add-i
+    loop-less
+    loop-again
+    returns-3)
