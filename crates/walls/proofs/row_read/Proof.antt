@@ -1,0 +1,65 @@
+-- The loop's invariant: the section was read in every stage that it passed. Assumes nothing.
+use borrow.Author.Needs.{needs}
+use Prim.Native.Nat.{_-_, _≤_}
+use native.Mathlib.Omega.{arith}
+use mathlib.Core.Path.{_≡_, refl, sym, _∙_}
+use mathlib.Core.Bool.{true}
+use Rattle.walls.specs.Walls.{every, rowRead}
+use Rattle.walls.proofs.Every.{every-more, every-not}
+use Rattle.walls.proofs.row_read.Statement.{statement}
+use Rattle.walls.proofs.row_read.Tie as tie
+
+abbrev Inv-loop : tie.InvT-loop
+Inv-loop readings row stages stage₀ stage = (stage ≤ stages) × (rowRead readings row stage ≡ true)
+
+abbrev μ-loop : tie.MeasureT-loop
+μ-loop readings row stages stage₀ stage = stages - stage
+
+loop-holds : tie.Need-loop-holds Inv-loop μ-loop
+unfolding every
+loop-holds c = (omega arith, refl)
+
+mul-is-read : tie.Need-mul-is-read Inv-loop μ-loop
+mul-is-read c = search needs
+
+add-is-read : tie.Need-add-is-read Inv-loop μ-loop
+add-is-read c = search needs
+
+is-read-requires : tie.Need-is-read-requires Inv-loop μ-loop
+is-read-requires c κs = search needs
+
+add-stage : tie.Need-add-stage Inv-loop μ-loop
+add-stage c = search needs
+
+loop-less : tie.Need-loop-less Inv-loop μ-loop
+loop-less c = search needs
+
+loop-again : tie.Need-loop-again Inv-loop μ-loop
+loop-again c =
+    (omega arith, every-more _ _ (sym (c .before .is-read .ensures) ∙ c .if1 .taken) (c .before .before .before .loop .inv .1))
+
+returns : tie.Need-returns Inv-loop μ-loop
+returns c =
+    sym (every-not _ _ _ (c .before .before .loop-test .taken) (sym (c .before .is-read .ensures) ∙ c .if1 .left))
+
+returns-2 : tie.Need-returns-2 Inv-loop μ-loop
+returns-2 c =
+    let l = c .before .loop in
+    let e : c .before .before .args .stages ≡ l .stage = omega arith in
+    rw e (sym (l .inv .1))
+
+pub row-read-spec : {M : Type 1} → statement M
+row-read-spec =
+    tie.close
+    (tie.spec
+    Inv-loop
+    μ-loop
+    loop-holds
+    mul-is-read
+    add-is-read
+    is-read-requires
+    add-stage
+    loop-less
+    loop-again
+    returns
+    returns-2)
