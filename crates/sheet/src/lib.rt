@@ -1,4 +1,6 @@
 // A firing as its sheet gives it, line by line, and the reasons for which a sheet is refused.
+ghost use mathlib.Core.Path.{_≡_};
+ghost use Rattle.sheet.specs.Refusals.{number};
 use quantity::gas::CarbonMonoxide;
 use quantity::gas::CubicMetres;
 use quantity::gas::ExcessAir;
@@ -146,4 +148,29 @@ pub struct Sheet {
     pub parts: Parts,
     pub sections: Sections,
     pub readings: [Reading; 144],
+}
+
+// Document 01's number of a refusal.
+pub fn refusal_number(refusal: Refusal) -> usize
+    ensures { λ r. ⌜ r ≡ number refusal ⌝ }
+{
+    match refusal {
+        Refusal::Accepted => 0,
+        Refusal::TooLong => 1,
+        Refusal::NoLineFeed => 2,
+        Refusal::WrongKey => 2,
+        Refusal::WrongCount => 2,
+        Refusal::NotANumber(_) => 2,
+        Refusal::Surplus => 2,
+        Refusal::Outside(_) => 3,
+        Refusal::Material(_) => 4,
+        Refusal::Shares => 5,
+        Refusal::SectionTwice => 6,
+        Refusal::NoSuchWall => 6,
+        Refusal::ReadTwice => 7,
+        Refusal::Missing => 8,
+        Refusal::Colder => 9,
+        Refusal::GasTotal => 10,
+        Refusal::NoRoom => 11,
+    }
 }
