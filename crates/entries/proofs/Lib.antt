@@ -1,0 +1,6 @@
+pub mod Places
+pub mod Ranges
+pub mod Lines
+pub mod Chain
+pub mod Formed
+pub mod Lists

@@ -1,0 +1,72 @@
+-- One reading after another, and a reading whose range or rule is tested after it. Assumes nothing.
+use Prim.Native.Nat.{ℕ}
+use mathlib.Core.Path.{_≡_, refl, ap, _∙_, subst}
+use mathlib.Core.Bool.{Bool, true, false}
+use mathlib.Core.List.{List}
+use native.Mathlib.Omega.{arith}
+use lib.ListN.{drop}
+use Rattle.sheet.specs.declared.Refusal.{Refusal}
+use Rattle.lines.specs.Reader.{Read, stopped, got, Reader, andThen, return}
+use Rattle.entries.specs.declared.Place.{Place}
+use Rattle.entries.specs.Place.{refusedAt, Fair, Ready, Meets, After}
+
+pub not-both : {X : Type 0} (t : Bool) → t ≡ true → t ≡ false → X
+not-both t p q = let z : _≡_ {A = ℕ} 0 1 = cc in absurd (omega arith)
+
+-- what passes a refused place on ends refused
+pub refused-on : {r : Refusal} {n : ℕ} {q q′ : Place} → q ≡ refusedAt r n → (q .good ≡ false → q′ ≡ q) → q′ ≡ refusedAt r n
+refused-on e f = f (ap (λ (p : Place). p .good) e) ∙ e
+
+module _ {A B : Type 0} (s : List ℕ) (p q q′ : Place) (m : Reader A) (f : A → Reader B) (P : A → Type 0) (Q : B → Type 0) where
+  bind-cases : (r : Read A) → Meets s r q P → ((a : A) → P a → After s q (f a) q′ Q) → (q .good ≡ false → q′ ≡ q) → Meets s (andThen r f) q′ Q
+  bind-cases (stopped x n) h k g = refused-on h g
+  bind-cases (got a n rest) h k g =
+      let w = k a (h .1) .reads (h .0 .good) in
+      let v : Meets s (f a n (drop (q .at) s)) q′ Q = subst (λ (x : ℕ). Meets s (f a x (drop (q .at) s)) q′ Q) (h .0 .line) w in
+      subst (λ (x : List ℕ). Meets s (f a n x) q′ Q) (h .0 .left) v
+
+  -- m from p to q, then f from q to q′, is m and then f from p to q′
+  pub after-bind : After s p m q P → ((a : A) → P a → After s q (f a) q′ Q) → (q .good ≡ false → q′ ≡ q) → (q′ .good ≡ true → Fair s q′) → After s p (λ n t. andThen (m n t) f) q′ Q
+  after-bind a k g fair = record {
+    reads = λ h. bind-cases (m (p .line) (drop (p .at) s)) (a .reads h) k g;
+    passes = λ h. let e = a .passes h in g (ap (λ (y : Place). y .good) e ∙ h) ∙ e;
+    fair = fair;
+  }
+
+pub after-return : {A : Type 0} (s : List ℕ) (q : Place) (a : A) (Q : A → Type 0) → Q a → (q .good ≡ true → Fair s q) → After s q (return a) q Q
+after-return s q a Q h f = record {
+  reads = λ e. (record { good = e; line = refl; left = refl }, h);
+  passes = λ e. refl;
+  fair = f;
+}
+
+-- what is known of what was read may be said otherwise
+meets-weaker : {A : Type 0} (s : List ℕ) (r : Read A) (q : Place) (P Q : A → Type 0) → ((a : A) → P a → Q a) → Meets s r q P → Meets s r q Q
+meets-weaker s (stopped x n) q P Q h m = m
+meets-weaker s (got a n rest) q P Q h m = (m .0, h a (m .1))
+
+pub after-weaker : {A : Type 0} (s : List ℕ) (p q : Place) (m : Reader A) (P Q : A → Type 0) → ((a : A) → P a → Q a) → After s p m q P → After s p m q Q
+after-weaker s p q m P Q h a = record {
+  reads = λ e. meets-weaker s (m (p .line) (drop (p .at) s)) q P Q h (a .reads e);
+  passes = a .passes;
+  fair = a .fair;
+}
+
+-- a place that is ready after one that was
+pub ready-after : {A : Type 0} {s : List ℕ} {p q : Place} {m : Reader A} {P : A → Type 0} → Ready s p → After s p m q P → Ready s q
+ready-after r a = record { short = r .short; fair = a .fair }
+
+pub after-left : {A : Type 0} {s : List ℕ} {p q : Place} {m : Reader A} {P Q : A → Type 0} → After s p m q (λ a. P a × Q a) → After s p m q P
+after-left {s = s} {p} {q} {m} {P} {Q} a = after-weaker s p q m (λ a. P a × Q a) P (λ a h. h .0) a
+
+-- where a reading ended refused, nothing was read, so anything may be said of it
+refused-cases : {A : Type 0} (s : List ℕ) (r : Read A) (q : Place) (P Q : A → Type 0) → q .good ≡ false → Meets s r q P → Meets s r q Q
+refused-cases s (stopped x n) q P Q e m = m
+refused-cases s (got a n rest) q P Q e m = not-both (q .good) (m .0 .good) e
+
+pub after-refused : {A : Type 0} (s : List ℕ) (p q : Place) (m : Reader A) (P Q : A → Type 0) → q .good ≡ false → After s p m q P → After s p m q Q
+after-refused s p q m P Q e a = record {
+  reads = λ h. refused-cases s (m (p .line) (drop (p .at) s)) q P Q e (a .reads h);
+  passes = a .passes;
+  fair = a .fair;
+}

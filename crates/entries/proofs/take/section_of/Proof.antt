@@ -1,0 +1,20 @@
+-- Three constructors in a row. Assumes nothing.
+use mathlib.Core.Path.{ap}
+use mathlib.Core.List.{List}
+use lib.IntN.{ℤ}
+use borrow.Author.Needs.{needs}
+use Rattle.lines.specs.Schema.{plain}
+use Rattle.lines.specs.Rows.{sectionOf}
+use Rattle.entries.proofs.Chain.{_&_, done, taken}
+use Rattle.entries.proofs.take.section_of.Statement.{statement}
+use Rattle.entries.proofs.take.section_of.Tie as tie
+
+returns : tie.Need-returns
+returns c =
+    let r2 = c .before .before .before in
+    let r1 = r2 .before in
+    let r0 = r1 .before in
+    taken (r0 .checked .ensures & r1 .checked2 .ensures & r2 .checked3 .ensures & done) (λ same. ap (λ (l : List ℤ). sectionOf (plain l)) same)
+
+pub section-of-spec : {M : Type 1} → statement M
+section-of-spec = tie.close (tie.spec (λ c. search needs) (λ c. search needs) (λ c. search needs) (λ c κs. search needs) (λ c κs. search needs) (λ c κs. search needs) returns)
