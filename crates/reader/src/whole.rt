@@ -1,0 +1,164 @@
+// The whole sheet: its lines from the first to the last, and then the rules that look at all of them.
+ghost use Prim.Native.Nat.{_≤_};
+ghost use mathlib.Core.Path.{_≡_};
+ghost use mathlib.Core.List.{map};
+ghost use lib.ListN.{length, take};
+ghost use Rattle.lines.specs.Document01.{sumOf};
+ghost use Rattle.lines.specs.Rules.{Every};
+ghost use Rattle.reader.specs.Stages.{SmallGas};
+ghost use Rattle.reader.specs.Whole.{headOf, LinesRead, Sized, rejectedAs, judgedAs};
+use crate::blank;
+use crate::parts::parts_part;
+use crate::parts::sections_part;
+use crate::parts::setters_part;
+use crate::parts::stages_part;
+use crate::parts::walls_part;
+use crate::tops::Lower;
+use crate::tops::Upper;
+use crate::tops::lower_lines;
+use crate::tops::upper_lines;
+use entries::Place;
+use entries::head::closing_line;
+use entries::head::edition_line;
+use quantity::Number;
+use quantity::gas::GasTotal;
+use sheet::Head;
+use sheet::Refusal;
+use sheet::Sheet;
+use sheet::Stage;
+
+// The head of a sheet, from its two groups of lines.
+fn head_of(u: Upper, l: Lower) -> Head
+    ensures { λ r. ⌜ r ≡ headOf u l ⌝ }
+{
+    let firing = u.firing;
+    let product = u.product;
+    let ambient = u.ambient;
+    let fuel = u.fuel;
+    let gas = u.gas;
+    let moisture = l.moisture;
+    let ware = l.ware;
+    let water = l.water;
+    let clay = l.clay;
+    Head {
+        firing,
+        product,
+        ambient,
+        fuel,
+        gas,
+        moisture,
+        ware,
+        water,
+        clay,
+    }
+}
+
+// The place after the last line, and all that the lines said.
+pub struct Lines {
+    pub place: Place,
+    pub sheet: Sheet,
+}
+
+// All lines, from `sheet` to `end`.
+pub fn all_lines(s: &[u8]) -> Lines
+    requires { ⌜ length (now s) ≤ 16384 ⌝ }
+    ensures { λ r. ⌜ LinesRead (now (s .entry)) r ⌝ }
+{
+    let start = Place {
+        good: true,
+        refusal: Refusal::Accepted,
+        line: 1,
+        at: 0,
+    };
+    let edition = edition_line(s, start);
+    let upper = upper_lines(s, edition.place);
+    let lower = lower_lines(s, upper.place);
+    let a = stages_part(s, lower.place);
+    let b = setters_part(s, a.place);
+    let c = parts_part(s, b.place);
+    let d = sections_part(s, c.place);
+    let w = walls_part(s, d.place, d.sections, a.stages.count.0);
+    let closing = closing_line(s, w.place);
+    let head = head_of(upper, lower);
+    let place = closing.place;
+    let stages = a.stages;
+    let setters = b.setters;
+    let parts = c.parts;
+    let sections = d.sections;
+    let readings = w.readings;
+    Lines {
+        place,
+        sheet: Sheet {
+            head,
+            stages,
+            setters,
+            parts,
+            sections,
+            readings,
+        },
+    }
+}
+
+// The gas of the first stages.
+fn gas_total(lines: [Stage; 12], count: usize) -> Number
+    requires { ⌜ count ≤ 12 ⌝ }
+    requires { ⌜ Every SmallGas lines ⌝ }
+    ensures { λ r. ⌜ r .0 ≡ sumOf (map (λ x. x .gas .0) (take count lines)) ⌝ }
+{
+    let mut total = Number(0);
+    let mut i = 0;
+    while i < count {
+        let x = lines[i];
+        let gas = x.gas;
+        total = Number(total.0 + gas.0);
+        i += 1;
+    }
+    total
+}
+
+// A firing as its sheet gives it, or why the sheet is refused and in which line, 0 for the whole; then the firing is blank.
+pub struct Outcome {
+    pub accepted: bool,
+    pub refusal: Refusal,
+    pub line: usize,
+    pub sheet: Sheet,
+}
+
+// The outcome of a sheet that is refused.
+pub fn rejected(refusal: Refusal, line: usize) -> Outcome
+    ensures { λ r. ⌜ r ≡ rejectedAs refusal line ⌝ }
+{
+    Outcome {
+        accepted: false,
+        refusal,
+        line,
+        sheet: blank::sheet(),
+    }
+}
+
+// The rules of the whole sheet: the gas of all stages, and then a reading for every section in every stage.
+pub fn judged(sheet: Sheet) -> Outcome
+    requires { ⌜ Sized sheet ⌝ }
+    ensures { λ r. ⌜ r ≡ judgedAs sheet ⌝ }
+{
+    let stages = sheet.stages;
+    let lines = stages.lines;
+    let count = stages.count;
+    let total = gas_total(lines, count.0);
+    let t = GasTotal::checked(total, 0, 1);
+    if t.fault != 0 {
+        return rejected(Refusal::GasTotal, 0);
+    }
+    let sections = sheet.sections;
+    let number = sections.count;
+    let readings = sheet.readings;
+    if walls::all_read(readings, number.0, count.0) {
+        return Outcome {
+            accepted: true,
+            refusal: Refusal::Accepted,
+            line: 0,
+            sheet,
+        };
+    }
+    rejected(Refusal::Missing, 0)
+}
