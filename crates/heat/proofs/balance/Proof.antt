@@ -1,0 +1,74 @@
+-- The groups by their functions; x11 and the heat with the setters from their joules. Assumes nothing.
+use mathlib.Core.List.{[], _∷_}
+use borrow.Author.Needs.{needs}
+use Rattle.arith.proofs.Machine.{raw, _⟨+⟩_, _⟨-⟩_}
+use Rattle.heat.specs.Formulas.{x11, withset}
+use Rattle.heat.proofs.Units.{plus, minus}
+use Rattle.heat.proofs.Sizes.{within, most, fit}
+use Rattle.heat.proofs.balance.Statement.{statement}
+use Rattle.heat.proofs.balance.Tie as tie
+
+income-of-requires : tie.Need-income-of-requires
+income-of-requires c κs = search needs
+
+solids-of-requires : tie.Need-solids-of-requires
+solids-of-requires c κs = search needs
+
+gases-of-requires : tie.Need-gases-of-requires
+gases-of-requires c κs = search needs
+
+useful-of-requires : tie.Need-useful-of-requires
+useful-of-requires c κs =
+    let p = c .before .before .before .pre in
+    (p .0, (p .1, c .before .solids-of .ensures (p .0) (p .1)))
+
+spent-of-requires : tie.Need-spent-of-requires
+spent-of-requires c κs =
+    let p = c .before .before .before .before .before .pre in
+    (p .0, (c .before .before .before .solids-of .ensures (p .0) (p .1), c .before .before .gases-of .ensures (p .0) (p .1)))
+
+minus-requires : tie.Need-minus-requires
+minus-requires c κs =
+    let p = c .before .before .before .before .before .before .pre in
+    let income = c .before .before .before .before .before .income-of .ensures (p .0) (p .1) in
+    let solids = c .before .before .before .before .solids-of .ensures (p .0) (p .1) in
+    let gases = c .before .before .before .gases-of .ensures (p .0) (p .1) in
+    fit (within (income .total .size) ∷ within (c .spent-of .ensures (p .0) solids gases .size) ∷ []) (raw 0 ⟨-⟩ raw 1) tt
+
+plus-requires : tie.Need-plus-requires
+plus-requires c κs =
+    let p = c .before .before .before .before .before .before .before .pre in
+    let solids = c .before .before .before .before .before .solids-of .ensures (p .0) (p .1) in
+    let useful = c .before .before .before .useful-of .ensures (p .0) (p .1) solids in
+    fit (within (useful .size) ∷ within (solids .x5 .size) ∷ []) (raw 0 ⟨+⟩ raw 1) tt
+
+returns : tie.Need-returns
+unfolding x11 withset
+returns c =
+    λ f k.
+    let income = c .before .before .before .before .before .before .before .income-of .ensures f k in
+    let solids = c .before .before .before .before .before .before .solids-of .ensures f k in
+    let gases = c .before .before .before .before .before .gases-of .ensures f k in
+    let useful = c .before .before .before .before .useful-of .ensures f k solids in
+    let spent = c .before .before .spent-of .ensures f solids gases in
+    record {
+      income = income;
+      solids = solids;
+      gases = gases;
+      x11 = rw (c .before .minus .ensures) (record { is = minus (income .total .is) (spent .is); size = most (within (income .total .size) ∷ within (spent .size) ∷ []) (raw 0 ⟨-⟩ raw 1) tt });
+      useful = useful;
+      withset = rw (c .plus .ensures) (record { is = plus (useful .is) (solids .x5 .is); size = most (within (useful .size) ∷ within (solids .x5 .size) ∷ []) (raw 0 ⟨+⟩ raw 1) tt });
+    }
+
+pub balance-spec : {M : Type 1} → statement M
+balance-spec =
+    tie.close
+    (tie.spec
+    income-of-requires
+    solids-of-requires
+    gases-of-requires
+    useful-of-requires
+    spent-of-requires
+    minus-requires
+    plus-requires
+    returns)

@@ -1,0 +1,9 @@
+pub mod Rounding
+pub mod Tables
+pub mod Formulas
+pub mod Marked
+pub mod Figures
+pub mod Steps
+pub mod Mixture
+pub mod Cells
+pub mod Balance

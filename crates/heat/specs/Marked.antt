@@ -1,0 +1,126 @@
+-- Document 01's marked cases and the joules of its worked firing: one table of facts about the definitions, with one proof, by computation.
+use Prim.Native.Nat.{ℕ, _*_, _/_, _^_}
+use mathlib.Core.Bool.{Bool, true, _&&_}
+use mathlib.Core.List.{List, [], _∷_}
+use lib.Dec.{T, eqb}
+use lib.IntN.{ℤ, pos, _*ℤ_}
+use Rattle.arith.specs.Nearest.{nearest, nearestℕ, tie}
+use Rattle.arith.specs.Root.{root, rootIn}
+use Rattle.sheet.specs.Firing.{Gas, Stuff, Stage, Section, Wall, Firing}
+use Rattle.sheet.specs.Shown.{same}
+use Rattle.heat.specs.Rounding.{paper}
+use Rattle.heat.specs.Formulas.{joule, sum, specificHeat, sensible, mixedHeat, theoreticalAir, dryOfGas, vapourOfGas, dryFlue, vapourRate, vapour, dryHeat, vapourHeat, flueHeat, monoxideHeat, numbered, convection, radiation, flux, wallHeat, q1, q2, q3, q5, q8, income, x1, x2, x3, x5, x7, x8, x9, x10, spent, x11, waterHeat, useful, withset}
+
+abbrev methane : Gas
+methane = record {
+  h2 = pos 0;
+  n2 = pos 0;
+  co = pos 0;
+  o2 = pos 0;
+  h2o = pos 0;
+  co2 = pos 0;
+  ch4 = pos 10000;
+  c2h4 = pos 0;
+  c2h6 = pos 0;
+  c3h8 = pos 0;
+  c4h10 = pos 0;
+  h2s = pos 0;
+  so2 = pos 0;
+}
+
+-- its own c, 1.0000
+abbrev given : Stuff
+given = record { material = pos 0; c = pos 10000 }
+
+abbrev only : ℕ → Stuff
+only m = record { material = pos m; c = pos 0 }
+
+abbrev stage : Stage
+stage = record { gas = pos 2000; excess = pos 1100; flue = pos 8200; co = pos 0; minutes = pos 600 }
+
+abbrev section : Section
+section = record { number = pos 3; place = pos 2; area = pos 1000 }
+
+abbrev wall : Wall
+wall = record { section = pos 3; stage = pos 1; surface = pos 560; air = pos 200 }
+
+abbrev still : Wall
+still = record { section = pos 3; stage = pos 1; surface = pos 200; air = pos 200 }
+
+-- the worked firing
+abbrev pub worked : Firing
+worked = record {
+  number = pos 7;
+  product = pos 10000;
+  ambient = pos 200;
+  fuel = record { heating = pos 35000; temperature = pos 200 };
+  gas = methane;
+  moisture = pos 0;
+  ware = record { green = pos 11000; entry = pos 200; highest = pos 12200; stuff = given };
+  water = record { adsorbed = pos 500; crystal = pos 500; flue = pos 2200 };
+  clay = pos 5000;
+  stages = stage ∷ [];
+  setters = record { mass = pos 5000; entry = pos 200; stuff = given } ∷ [];
+  parts = record { mass = pos 20000; stuff = only 1; before = pos 200; firing = pos 6200 } ∷ [];
+  sections = section ∷ [];
+  walls = wall ∷ [];
+}
+
+-- what is computed, what document 01 says in the formula's unit, and how many of the definitions' units that unit is
+record Case : Type 0 where
+  computed : ℤ
+  said : ℕ
+  unit : ℕ
+
+abbrev case : ℤ → ℕ → ℕ → Case
+case x n k = record { computed = x; said = n; unit = k }
+
+cases : List Case
+cases =
+    case (specificHeat (only 1) (pos 6200)) 10012000 1  -- clay brick at 620.0: 1.0012
+    ∷ case (specificHeat (only 3) (pos 8000)) 11240000 1  -- corundum at 800.0: 1.124
+    ∷ case (specificHeat (only 3) (pos 8001)) 11344418 1  -- at 800.1: 1.1344418
+    ∷ case (theoreticalAir methane) 9520000 1  -- 9.52
+    ∷ case (dryFlue paper methane stage) 94728 (2000 * 10 ^ 5)  -- 9.4728 per m³
+    ∷ case (vapourRate paper methane (pos 0) stage) 1607142857 (56 * 10 ^ 7)  -- in dry air 1.607142857
+    ∷ case (convection paper section wall) 55296000 (10 ^ 9)  -- 552.96000
+    ∷ case (radiation paper wall) 19731127 (10 ^ 9)  -- 197.31127
+    ∷ case (flux paper section still) 0 1
+    ∷ case (wallHeat paper section stage wall) 270097657 joule  -- that wall's heat
+    ∷ case (q1 worked paper) 7000000000 joule
+    ∷ case (q2 worked paper) 0 joule
+    ∷ case (q3 worked paper) 0 joule
+    ∷ case (q5 worked paper) 0 joule
+    ∷ case (q8 worked paper) 0 joule
+    ∷ case (income worked paper) 7000000000 joule
+    ∷ case (x1 worked paper) 1200000000 joule
+    ∷ case (x2 worked paper) 287600000 joule
+    ∷ case (x3 worked paper) 544000000 joule
+    ∷ case (x5 worked paper) 600000000 joule
+    ∷ case (x7 worked paper) 2593942546 joule
+    ∷ case (x8 worked paper) 0 joule
+    ∷ case (x9 worked paper) 270097657 joule
+    ∷ case (x10 worked paper) 1201440000 joule
+    ∷ case (x11 worked paper) 302919797 joule
+    ∷ case (useful worked paper) 2049277500 joule
+    ∷ case (withset worked paper) 2649277500 joule
+    -- printed per tonne, 2,049,277.5 is 2,049,278; and over q1, in 0.01 %
+    ∷ case (nearest (useful worked paper *ℤ pos 10) (10000 * joule)) 2049278 1
+    ∷ case (nearest (useful worked paper *ℤ pos 10000) (7000000000 * joule)) 2928 1
+    ∷ []
+
+holds : List Case → Bool
+holds [] = true
+holds (c ∷ l) = same (c .computed) (pos (c .said * c .unit)) && holds l
+
+marked : T (holds cases)
+unfolding holds cases nearest nearestℕ tie root rootIn sum specificHeat sensible mixedHeat theoreticalAir dryOfGas vapourOfGas dryFlue vapourRate vapour dryHeat vapourHeat flueHeat monoxideHeat numbered convection radiation flux wallHeat q1 q2 q3 q5 q8 income x1 x2 x3 x5 x7 x8 x9 x10 spent x11 waterHeat useful withset
+marked = tt
+
+-- each fraction of a joule that the formulas name is a whole number of the unit
+abbrev whole : List ℕ → Bool
+whole [] = true
+whole (k ∷ l) = eqb (joule / k * k) joule && whole l
+
+units : T (whole (1 ∷ 10 ∷ 10 ^ 6 ∷ 10 ^ 9 ∷ 10 ^ 11 ∷ 10 ^ 16 ∷ 56 * 10 ^ 17 ∷ []))
+units = tt
