@@ -3,4 +3,3 @@ pub mod Ranges
 pub mod Lines
 pub mod Chain
 pub mod Formed
-pub mod Lists

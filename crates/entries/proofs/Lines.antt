@@ -2,24 +2,23 @@
 use Prim.Native.Nat.{ℕ, suc, _<_}
 use mathlib.Core.Path.{_≡_, refl, sym, ap, _∙_, subst}
 use mathlib.Core.Bool.{Bool, true, false, cond, not, _&&_}
-use mathlib.Core.List.{List, [], _∷_, _++_}
+use mathlib.Core.List.{List, [], _++_}
 use mathlib.Core.Option.{Option, none, some}
 use native.Mathlib.Omega.{arith}
 use lib.ListN.{length, drop}
 use lib.Dec.{eqb, ltb}
 use lib.IntN.{ℤ}
 use borrow.Author.Tests.{eqb-true, ne-eqb}
-use Rattle.text.specs.declared.Num.{Num}
-use Rattle.text.specs.declared.Num.the-variants as num
 use Rattle.text.specs.Bytes.{bytes}
-use Rattle.text.specs.Number.{numberOf}
 use Rattle.text.specs.Scanning.{upTo, begins}
 use Rattle.sheet.specs.declared.Refusal.{Refusal}
 use Rattle.sheet.specs.declared.Refusal.the-variants.{NoLineFeed, WrongKey, WrongCount, NotANumber, Outside}
-use Rattle.lines.specs.Schema.{Line, Row, plain, Judged, refused, values, unless, pieces, Numbers, none-at, all-are, onNumber, onNumbers, numbersOf, formedBy, formed, outsideOf, on, judge}
+use Rattle.lines.specs.Schema.{Line, Row, plain, Judged, refused, values, pieces, Numbers, none-at, all-are, onNumbers, numbersOf, formedBy, formed, outsideOf, on, judge}
 use Rattle.lines.specs.Schema as schema
 use Rattle.lines.specs.Document01.{when}
 use Rattle.lines.specs.Reader.{stopped, got, judged, readLine}
+use Rattle.lines.proofs.Cases.{unless-values}
+use Rattle.line.proofs.Judgement.{numbers-many}
 use Rattle.entries.specs.declared.Place.{Place}
 use Rattle.entries.specs.Place.{refusedAt, Fair, Stands, Meets, After, ranged, ruled}
 use Rattle.quantity.specs.declared.Number.{Number}
@@ -28,21 +27,7 @@ use Rattle.entries.specs.Form.{formOf}
 use Rattle.entries.proofs.Places.{not-both, after-weaker}
 use Rattle.entries.proofs.Ranges.{fault-is, outside-some}
 
--- ---- a line in form has as many numbers as fields
-numbers-length : (i : ℕ) (ps : List (List ℕ)) (zs : List ℤ) → numbersOf i ps ≡ all-are zs → length zs ≡ length ps
-unfolding numbersOf
-numbers-length i [] zs e = let z : zs ≡ [] = cc in rw z
-numbers-length i (p ∷ ps) zs e = here (numberOf p) (numbersOf (suc i) ps) (λ ys. numbers-length (suc i) ps ys) e
-  where
-    here : (x : Num) (ns : Numbers) → ((ys : List ℤ) → ns ≡ all-are ys → length ys ≡ length ps) → onNumber x (none-at i) (λ z. onNumbers ns none-at (λ ys. all-are (z ∷ ys))) ≡ all-are zs → length zs ≡ suc (length ps)
-    here num.NotANumber ns ih e = absurd (let z : _≡_ {A = ℕ} 0 1 = cc in omega arith)
-    here (num.Value x) (none-at j) ih e = absurd (let z : _≡_ {A = ℕ} 0 1 = cc in omega arith)
-    here (num.Value x) (all-are ys) ih e = let z : zs ≡ x ∷ ys = cc in rw z (ap suc (ih ys refl))
-
-unless-values : (t : Bool) (r : Refusal) (j : Judged) (row : Row) (size : ℕ) → unless t r j ≡ values row size → (t ≡ true) × (j ≡ values row size)
-unless-values true r j row size e = (refl, e)
-unless-values false r j row size e = absurd (let z : _≡_ {A = ℕ} 0 1 = cc in omega arith)
-
+-- ---- a line in form
 -- what a line in form is: its numbers as many as its fields, and at least its LF long
 pub record InForm (n : ℕ) (text : List ℕ) (row : Row) (size : ℕ) : Type 0 where
   pub count : length (row .numbers) ≡ n
@@ -68,7 +53,7 @@ in-form key n text row size e =
         let r : row ≡ plain zs = cc in
         let m : size ≡ suc (length (upTo 10 text)) = cc in
         record {
-          count = ap (λ (x : Row). length (x .numbers)) r ∙ numbers-length 1 ps zs q ∙ l;
+          count = ap (λ (x : Row). length (x .numbers)) r ∙ numbers-many 1 ps zs q ∙ l;
           nameless = ap (λ (x : Row). x .name) r;
           some = omega arith;
           within = w;

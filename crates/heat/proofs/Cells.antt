@@ -28,7 +28,7 @@ use Rattle.lines.specs.Limits.{StageIn, SectionIn, WallIn, Apart}
 use Rattle.heat.specs.Rounding.{paper}
 use Rattle.heat.specs.Formulas.{sum, noSection, noStage, numbered, sectionOf, stageOf, convection, radiation, flux, wallHeat, x9}
 use Rattle.heat.specs.Cells.{ReadingIn, cellHeat, CellIn, Seen}
-use Rattle.heat.proofs.Shares.{every-at}
+use Rattle.lines.proofs.Lists.{every-at}
 use Rattle.heat.proofs.Sums.{blankStage, blankSection}
 
 -- ---- sums over the numbers below n

@@ -17,6 +17,7 @@ use Rattle.sheet.specs.Shown.{gas}
 use Rattle.arith.proofs.Ring.{Ex, v, lit, #, _⊕_, _⊖_, _⊗_, ring, both-left, both-right}
 use Rattle.arith.proofs.Order.{abs-add, abs-mul, abs-pos, bound-add, bound-mul, sfits-abs}
 use Rattle.lines.specs.Quantities.{share}
+use Rattle.lines.proofs.Lists.{every-at}
 use Rattle.lines.specs.Document01.{weigh, sumOf, all, airWeights}
 use Rattle.lines.specs.Rules.{Every}
 use Rattle.lines.specs.Rows.{gasRow}
@@ -164,10 +165,6 @@ module _ (W : ℕ) where
       record { size = rw e at (weigh-total (take i ws) (gasRow g .numbers) (first-light ws i t)) }
 
 -- ---- a column of the table
-pub every-at : {A : Type 0} (P : A → Type 0) (l : List A) (i : ℕ) (d : A) → Every P l → i < length l → P (getD l i d)
-every-at P [] i d p h = absurd (not-suc-le-zero h)
-every-at P (a ∷ l) zero d p h = p .0
-every-at P (a ∷ l) (suc i) d p h = every-at P l i d (p .1) (le-of-suc-le-suc h)
 
 module _ (f : Kind → ℤ) (z : f noKind ≡ pos 0) (l : List Share) (i : ℕ) (h : i < 13) where
   weight-at : getD (map f tableA1) i (pos 0) ≡ f (kindAt i)

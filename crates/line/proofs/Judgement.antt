@@ -20,7 +20,7 @@ use Rattle.lines.specs.Schema.{Row, plain, Judged, refused, values, unless, pie
 use Rattle.line.specs.declared.Line.{Line}
 use Rattle.line.specs.Line.{zeros, handed, lineAt}
 
-numbers-many : (i : ℕ) (ps : List (List ℕ)) (zs : List ℤ) → numbersOf i ps ≡ all-are zs → length zs ≡ length ps
+pub numbers-many : (i : ℕ) (ps : List (List ℕ)) (zs : List ℤ) → numbersOf i ps ≡ all-are zs → length zs ≡ length ps
 unfolding numbersOf
 numbers-many i [] zs e = let q : zs ≡ [] = cc in rw q
 numbers-many i (p ∷ ps) zs e = here (numberOf p) (numbersOf (suc i) ps) (numbers-many (suc i) ps) e

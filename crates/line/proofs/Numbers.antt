@@ -3,46 +3,31 @@
 use mathlib.Core.Path.{_≡_, refl, sym, ap, _∙_}
 use mathlib.Core.Bool.{Bool, true, false, _&&_}
 use mathlib.Core.List.{List, [], _∷_, _++_}
-use Prim.Native.Nat.{ℕ, suc, _+_, _-_, _*_, _/_, _%_, _≤_, _<_}
+use Prim.Native.Nat.{ℕ, _+_, _-_, _*_, _≤_, _<_}
 use native.Mathlib.Nat.{add-zero}
 use native.Mathlib.Numerals.{add-one}
 use native.Mathlib.Omega.{arith}
 use lib.ListN.{length, getD, drop, set, length-append}
 use lib.Seq.{drop-cons, getD-take, getD-drop}
-use lib.IntN.{ℤ, pos, negsuc}
+use lib.IntN.{ℤ, pos}
 use lib.Dec.{ltb, eqb, lit<}
 use borrow.Author.Tests.{eq-eqb, ne-eqb, lt-ltb, le-ltb, le-leb, ltb-true, eqb-true}
 use Rattle.text.specs.declared.Num.the-variants.{Value, NotANumber}
 use Rattle.text.specs.Bytes.{bytes}
-use Rattle.text.specs.Decimal.{digits, decimal}
+use Rattle.text.specs.Decimal.{digits}
 use Rattle.text.specs.Number.{digitsRead, leadingZero, unsigned, numberWithin, numberOf}
 use Rattle.text.specs.Scanning.{upTo, find, count, begins}
-use Rattle.text.proofs.Decimal.{by-digits, digits-one, digits-more}
 use Rattle.text.proofs.Reading.{only-text}
-use Rattle.text.proofs.Scanning.{count-append, upTo-front, found, find-hit}
+use Rattle.text.proofs.Scanning.{upTo-front, found, find-hit}
 use Rattle.lines.specs.Schema.{pieces}
 use Rattle.line.specs.Fields.{accepted, fieldsAt, Number}
-use Rattle.line.proofs.Pieces.{upTo-past, pieces-one, pieces-more}
+use Rattle.lines.proofs.Pieces.{pieces-last, pieces-more, decimal-clear}
+use Rattle.line.proofs.Pieces.{upTo-past}
 use Rattle.line.proofs.Fields.{fields-done, fields-more}
 
 -- a number has no byte below its sign
-digits-clear : (c : ℕ) → c < 48 → (n : ℕ) → count (digits n) c ≡ 0
-unfolding count
-digits-clear c h = by-digits (λ n. count (digits n) c ≡ 0) one more
-  where
-    one : (n : ℕ) → n < 10 → count (digits n) c ≡ 0
-    one n l = rw (digits-one n l, ne-eqb (48 + n) c (λ q. omega arith))
-
-    more : (n : ℕ) → 10 ≤ n → count (digits (n / 10)) c ≡ 0 → count (digits n) c ≡ 0
-    more n l q = rw (digits-more n l, count-append, q, ne-eqb (48 + n % 10) c (λ q. omega arith))
-
 number-clear : (c : ℕ) → c < 45 → (l : List ℕ) (z : ℤ) → numberOf l ≡ Value z → count l c ≡ 0
-unfolding count decimal
-number-clear c h l z e = rw (only-text 9 l z e) (here z)
-  where
-    here : (z : ℤ) → count (decimal z) c ≡ 0
-    here (pos n) = digits-clear c (omega arith) n
-    here (negsuc n) = rw (ne-eqb 45 c (λ q. omega arith)) (digits-clear c (omega arith) (suc n))
+number-clear c h l z e = rw (only-text 9 l z e) (decimal-clear c h z)
 
 -- how a number without a sign begins
 no-zero : (l : List ℕ) → (1 < length l → getD l 0 0 ≡ 48 → ⊥) → leadingZero l ≡ false
@@ -104,5 +89,5 @@ module _ (s : List ℕ) (p n i : ℕ) (vals : List ℤ) (z : ℤ) (q : ℕ) wher
   unfolding fieldsAt
   row-last w h =
       let d = upTo 10 (drop p s) in
-      rw (lt-ltb (find s p 10) (length s) (w .inside), pieces-one 44 d (number-clear 44 (lit< tt) d z (w .says)), ← w .ends)
+      rw (lt-ltb (find s p 10) (length s) (w .inside), pieces-last 44 d (number-clear 44 (lit< tt) d z (w .says)), ← w .ends)
       (fields-more n q i vals d [] z (w .says) ∙ fields-done n q (i + 1) (set vals i z) [] refl h)

@@ -7,10 +7,11 @@ use Prim.Native.Nat.{ℕ, suc, _+_, _≤_, _<_}
 use native.Mathlib.Omega.{arith}
 use lib.ListN.{length, drop}
 use lib.Dec.{leb, eqb}
-use borrow.Author.Tests.{eq-eqb, le-leb, leb-true, leb-false}
+use borrow.Author.Tests.{le-leb, leb-true, leb-false}
 use Rattle.text.specs.Scanning.{upTo, find, count}
 use Rattle.text.proofs.Scanning.{upTo-clear, find-most, found, not-found}
-use Rattle.lines.specs.Schema.{push, pieces}
+use Rattle.lines.specs.Schema.{pieces}
+use Rattle.lines.proofs.Pieces.{pieces-last, pieces-more}
 
 -- a text without c is passed over
 pub upTo-past : (c : ℕ) (p rest : List ℕ) → count p c ≡ 0 → upTo c (p ++ rest) ≡ p ++ upTo c rest
@@ -21,35 +22,6 @@ upTo-past c (b ∷ p) rest z = here (eqb b c) (upTo-past c p rest) z
     here : (t : Bool) → (count p c ≡ 0 → upTo c (p ++ rest) ≡ p ++ upTo c rest) → cond t (suc (count p c)) (count p c) ≡ 0 → cond t [] (b ∷ upTo c (p ++ rest)) ≡ b ∷ (p ++ upTo c rest)
     here true q z = absurd (omega arith)
     here false q z = rw (q z)
-
-pub pieces-one : (c : ℕ) (p : List ℕ) → count p c ≡ 0 → pieces c p ≡ p ∷ []
-unfolding pieces count
-pieces-one c [] z = refl
-pieces-one c (b ∷ p) z = here (eqb b c) (pieces-one c p) z
-  where
-    here : (t : Bool) → (count p c ≡ 0 → pieces c p ≡ p ∷ []) → cond t (suc (count p c)) (count p c) ≡ 0 → cond t ([] ∷ pieces c p) (push b (pieces c p)) ≡ (b ∷ p) ∷ []
-    here true q z = absurd (omega arith)
-    here false q z = rw (q z)
-
-pub pieces-more : (c : ℕ) (p rest : List ℕ) → count p c ≡ 0 → pieces c (p ++ (c ∷ rest)) ≡ p ∷ pieces c rest
-unfolding pieces count
-pieces-more c [] rest z = rw (eq-eqb c c refl)
-pieces-more c (b ∷ p) rest z = here (eqb b c) (pieces-more c p rest) z
-  where
-    here : (t : Bool) → (count p c ≡ 0 → pieces c (p ++ (c ∷ rest)) ≡ p ∷ pieces c rest) → cond t (suc (count p c)) (count p c) ≡ 0 →
-        cond t ([] ∷ pieces c (p ++ (c ∷ rest))) (push b (pieces c (p ++ (c ∷ rest)))) ≡ (b ∷ p) ∷ pieces c rest
-    here true q z = absurd (omega arith)
-    here false q z = rw (q z)
-
-pub pieces-count : (c : ℕ) (v : List ℕ) → length (pieces c v) ≡ suc (count v c)
-unfolding pieces count
-pieces-count c [] = refl
-pieces-count c (b ∷ v) = here (eqb b c) (pieces c v) (pieces-count c v)
-  where
-    here : (t : Bool) (ps : List (List ℕ)) → length ps ≡ suc (count v c) → length (cond t ([] ∷ ps) (push b ps)) ≡ suc (cond t (suc (count v c)) (count v c))
-    here true ps q = ap suc q
-    here false [] q = absurd (omega arith)
-    here false (p ∷ ps) q = q
 
 -- the pieces from a place on; behind the end there are none
 unfoldable pub left : List ℕ → ℕ → List (List ℕ)
@@ -77,5 +49,5 @@ next-piece v at e q p = rw q (here (leb at (length v)) refl (leb (find v at 44 +
         record { most = omega arith; first = rw (h, g) (ap (pieces 44) (found v at 44 (omega arith)) ∙ pieces-more 44 text (drop (find v at 44 + 1) v) (upTo-clear 44 (drop at v))) }
     here true h false g p =
         let l = leb-false (find v at 44 + 1) (length v) g in
-        record { most = find-most v at 44 (leb-true at (length v) h); first = rw (h, g) (ap (pieces 44) (sym (not-found v at 44 (omega arith))) ∙ pieces-one 44 text (upTo-clear 44 (drop at v))) }
+        record { most = find-most v at 44 (leb-true at (length v) h); first = rw (h, g) (ap (pieces 44) (sym (not-found v at 44 (omega arith))) ∙ pieces-last 44 text (upTo-clear 44 (drop at v))) }
     here false h u g p = absurd (omega arith)

@@ -11,7 +11,7 @@ use Rattle.text.specs.Number.{digitsRead, unsigned, numberWithin}
 use Rattle.text.specs.Decimal.{digitsIn, digits, decimal}
 use Rattle.text.specs.Scanning.{upTo, begins}
 use Rattle.sheet.specs.Refusals as refusals
-use Rattle.lines.specs.Schema.{joined, bodyText, lineText, pieces, numbersOf, formed, formedBy, outsideOf, judge}
+use Rattle.lines.specs.Schema.{joined, bodyText, lineText, pieces, numbersOf, formedBy, outsideOf, judge}
 use Rattle.lines.specs.Reader.{rowsText, sheetText, textOf, readLine, readRows, readParts, Answer, Refused, Good, readOf}
 use Rattle.lines.specs.Document01.{sameKey, below01, document01}
 

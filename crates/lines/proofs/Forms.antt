@@ -73,7 +73,7 @@ abbrev pub distinct : List Part → Bool
 distinct [] = true
 distinct (p ∷ ps) = new (lineOf p .key) ps && distinct ps
 
-same-key : (k : List ℕ) → sameKey k k ≡ true
+pub same-key : (k : List ℕ) → sameKey k k ≡ true
 same-key [] = refl
 same-key (b ∷ k) = rw (eq-eqb b b refl) (same-key k)
 

@@ -1,7 +1,10 @@
 -- Some, every and no two of a list: of what follows from it, of one more, and of the things a list was made from.
 -- Assumes nothing.
+use Prim.Native.Nat.{ℕ, zero, suc, _<_}
 use mathlib.Core.List.{List, [], _∷_, _++_, map}
 use mathlib.Core.Logic.{_⊎_, inl, inr, ⊎-elim}
+use native.Mathlib.Omega.{arith}
+use lib.ListN.{length, getD, set, replicate}
 use Rattle.lines.specs.Rules.{Some, Every, NoTwo}
 
 module _ {A : Type 0} where
@@ -40,3 +43,19 @@ module _ {A B : Type 0} (to : A → B) where
   pub no-two-made : (R : B → B → Type 0) (S : A → A → Type 0) → ((x y : A) → S x y → R (to x) (to y)) → (xs : List A) → NoTwo R (map to xs) → NoTwo S xs
   no-two-made R S h [] k = tt
   no-two-made R S h (x ∷ xs) k = (every-imp (λ y n r. n (h y x r)) xs (every-made (λ y. ¬ R y (to x)) xs (k .0)), no-two-made R S h xs (k .1))
+
+-- of a list's elements, by their places
+module _ {A : Type 0} (P : A → Type 0) where
+  pub every-replicate : (n : ℕ) (a : A) → P a → Every P (replicate n a)
+  every-replicate zero a h = tt
+  every-replicate (suc n) a h = (h, every-replicate n a h)
+
+  pub every-set : (l : List A) (i : ℕ) (a : A) → Every P l → P a → Every P (set l i a)
+  every-set [] i a h k = tt
+  every-set (x ∷ l) zero a h k = (k, h .1)
+  every-set (x ∷ l) (suc i) a h k = (h .0, every-set l i a (h .1) k)
+
+  pub every-at : (l : List A) (i : ℕ) (d : A) → Every P l → i < length l → P (getD l i d)
+  every-at [] i d h k = absurd (omega arith)
+  every-at (x ∷ l) zero d h k = h .0
+  every-at (x ∷ l) (suc i) d h k = every-at l i d (h .1) (omega arith)

@@ -51,7 +51,7 @@ same-is (pos a) (negsuc b) e = clash cc
 same-is (negsuc a) (pos b) e = clash cc
 same-is (negsuc a) (negsuc b) e = let h = both (leb b a) (leb a b) e in let z : a ≡ b = omega (arith, leb-true b a (h .0), leb-true a b (h .1)) in ap negsuc z
 
-same-self : (a : ℤ) → same a a ≡ true
+pub same-self : (a : ℤ) → same a a ≡ true
 same-self (pos a) = rw (le-leb a a (omega arith))
 same-self (negsuc a) = rw (le-leb a a (omega arith))
 

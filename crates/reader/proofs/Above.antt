@@ -3,19 +3,15 @@ use Prim.Native.Nat.{ℕ}
 use mathlib.Core.Path.{_≡_, refl}
 use mathlib.Core.Bool.{Bool, true, false, cond, not, _&&_}
 use mathlib.Core.List.{List, [], _∷_, _++_}
-use borrow.Author.Tests.{eq-eqb}
 use Rattle.lines.specs.Schema.{Line, Row}
 use Rattle.lines.specs.Reader.{Sheet, filled}
 use Rattle.lines.specs.Document01.{sameKey, rowsOf}
+use Rattle.lines.proofs.Forms.{same-key}
 use Rattle.lines.proofs.Cases.{clash}
 use Rattle.reader.specs.Surface.{lacks}
 
 pub funext : {A B : Type 0} {f g : A → B} → ((x : A) → f x ≡ g x) → f ≡ g
 funext h = λ i. λ x. h x i
-
-same-key : (k : List ℕ) → sameKey k k ≡ true
-same-key [] = refl
-same-key (b ∷ k) = rw (eq-eqb b b refl) (same-key k)
 
 -- the rows of a block are found under its key
 pub rows-here : (l : Line) (rows : List Row) (seen : Sheet) → lacks (l .key) seen ≡ true → rowsOf (l .key) (seen ++ filled l rows) ≡ rows

@@ -20,7 +20,8 @@ use Rattle.lines.specs.Rules.{Every}
 use Rattle.lines.specs.Document01.{any, at}
 use Rattle.lines.specs.Rows.{wallOf}
 use Rattle.walls.specs.Walls.{readAt}
-use Rattle.walls.proofs.Same.{same-self, same-true, any-map}
+use Rattle.lines.proofs.Rules.{same-self, same-is}
+use Rattle.walls.proofs.Same.{any-map}
 use Rattle.walls.proofs.Sections.{before-one}
 
 -- A wall whose section is listed and whose stage is one of twelve.
@@ -70,8 +71,8 @@ module _ (S : List Section) (few : length S ≤ 12) where
         where
           not-both : (s t : Bool) → same (x .section) (w .section) ≡ s → same (x .stage) (w .stage) ≡ t → s && t ≡ false
           not-both true true f g =
-              let section = same-true (x .section) (w .section) f in
-              let stage = same-true (x .stage) (w .stage) g in
+              let section = same-is (x .section) (w .section) f in
+              let stage = same-is (x .stage) (w .stage) g in
               let one : cell S x ≡ cell S w = rw (section, stage) in
               absurd (eqb-false (cell S x) (cell S w) e one)
           not-both true false f g = refl

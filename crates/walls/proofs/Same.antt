@@ -1,36 +1,18 @@
 -- `same` is equality of numbers as a test, and a test along a list is one along the list's source. Assumes nothing.
-use native.Mathlib.Omega.{arith}
 use mathlib.Core.Path.{_≡_, refl, sym, ap}
-use mathlib.Core.Bool.{Bool, true, false, _&&_, _||_, and-comm, and-eq-true-iff, false≢true}
+use mathlib.Core.Bool.{Bool, true, false, _&&_, _||_, and-comm, false≢true}
 use mathlib.Core.List.{List, [], _∷_, map}
-use lib.Dec.{leb}
-use lib.IntN.{ℤ, pos, negsuc}
+use lib.IntN.{ℤ}
 use lib.Signed.{leZ}
-use borrow.Author.Tests.{leb-true, le-leb}
 use Rattle.sheet.specs.Shown.{same}
 use Rattle.lines.specs.Document01.{any, all}
-
-pub same-self : (a : ℤ) → same a a ≡ true
-same-self (pos n) = rw (le-leb n n (omega arith))
-same-self (negsuc n) = rw (le-leb n n (omega arith))
-
-pub same-true : (a b : ℤ) → same a b ≡ true → a ≡ b
-same-true (pos m) (pos n) e =
-    let p = and-eq-true-iff (leb m n) (leb n m) .0 e in
-    let q : m ≡ n = omega (arith, leb-true m n (p .0), leb-true n m (p .1)) in
-    ap pos q
-same-true (pos m) (negsuc n) e = absurd (false≢true e)
-same-true (negsuc m) (pos n) e = absurd (false≢true e)
-same-true (negsuc m) (negsuc n) e =
-    let p = and-eq-true-iff (leb n m) (leb m n) .0 e in
-    let q : m ≡ n = omega (arith, leb-true n m (p .0), leb-true m n (p .1)) in
-    ap negsuc q
+use Rattle.lines.proofs.Rules.{same-is}
 
 pub same-false : (a b : ℤ) → ¬ (a ≡ b) → same a b ≡ false
 same-false a b apart = by (same a b) refl
   where
     by : (t : Bool) → same a b ≡ t → t ≡ false
-    by true e = absurd (apart (same-true a b e))
+    by true e = absurd (apart (same-is a b e))
     by false e = refl
 
 pub same-swap : (a b : ℤ) → same a b ≡ same b a

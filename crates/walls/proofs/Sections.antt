@@ -14,7 +14,8 @@ use Rattle.sheet.specs.Shown.{same, before}
 use Rattle.lines.specs.Schema.{Row}
 use Rattle.lines.specs.Document01.{any, at}
 use Rattle.lines.specs.Rows.{sectionOf}
-use Rattle.walls.proofs.Same.{same-self, same-true, same-swap, any-map, neither}
+use Rattle.lines.proofs.Rules.{same-self, same-is}
+use Rattle.walls.proofs.Same.{same-swap, any-map, neither}
 
 -- A section of this number stands in the list.
 abbrev pub listed : ℤ → List Section → Bool
@@ -55,7 +56,7 @@ before-one a b (x ∷ S) h e = by (same a (x .number)) (same b (x .number)) refl
         (s t : Bool) → same a (x .number) ≡ s → same b (x .number) ≡ t →
         cond s 0 (suc (before a S)) < suc (length S) → cond s 0 (suc (before a S)) ≡ cond t 0 (suc (before b S)) →
         (before a S < length S → before a S ≡ before b S → a ≡ b) → a ≡ b
-    by true true p q h e rest = same-true a (x .number) p ∙ sym (same-true b (x .number) q)
+    by true true p q h e rest = same-is a (x .number) p ∙ sym (same-is b (x .number) q)
     by true false p q h e rest = absurd (omega arith)
     by false true p q h e rest = absurd (omega arith)
     by false false p q h e rest = rest (omega arith) (omega arith)

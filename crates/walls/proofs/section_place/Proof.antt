@@ -11,7 +11,8 @@ use lib.Seq.{length-take-le, getD-take}
 use Rattle.sheet.specs.declared.Section.{Section}
 use Rattle.sheet.specs.Firing.{Section as Shown}
 use Rattle.sheet.specs.Shown.{section, before}
-use Rattle.walls.proofs.Same.{same-self, same-false}
+use Rattle.lines.proofs.Rules.{same-self}
+use Rattle.walls.proofs.Same.{same-false}
 use Rattle.walls.proofs.Sections.{before-here, before-further}
 use Rattle.walls.proofs.section_place.Statement.{statement}
 use Rattle.walls.proofs.section_place.Tie as tie

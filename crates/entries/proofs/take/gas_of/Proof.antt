@@ -18,7 +18,7 @@ use Rattle.lines.specs.Quantities.{share}
 use Rattle.lines.specs.Rules.{Every}
 use Rattle.entries.specs.Taking.{from, shares}
 use Rattle.entries.proofs.Chain.{Chain, done, taken, chain-snoc, from-end, replicate-end}
-use Rattle.entries.proofs.Lists.{every-replicate, every-set}
+use Rattle.lines.proofs.Lists.{every-replicate, every-set}
 use Rattle.entries.proofs.take.gas_of.Statement.{statement}
 use Rattle.entries.proofs.take.gas_of.Tie as tie
 

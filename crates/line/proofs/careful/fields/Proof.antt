@@ -15,7 +15,8 @@ use Rattle.text.proofs.Scanning.{piece}
 use Rattle.lines.specs.Schema.{pieces}
 use Rattle.line.specs.Line.{zeros}
 use Rattle.line.specs.Fields.{fieldsOf}
-use Rattle.line.proofs.Pieces.{left, left-all, Piece, next-piece, pieces-count}
+use Rattle.lines.proofs.Pieces.{pieces-count}
+use Rattle.line.proofs.Pieces.{left, left-all, Piece, next-piece}
 use Rattle.line.proofs.Fields.{fields-wrong, fields-done, fields-bad, fields-more}
 use Rattle.line.proofs.careful.fields.Statement.{statement}
 use Rattle.line.proofs.careful.fields.Tie as tie

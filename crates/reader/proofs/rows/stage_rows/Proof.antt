@@ -14,7 +14,7 @@ use Rattle.reader.specs.Filling.{Filled}
 use Rattle.reader.specs.Blank.{blankStage}
 use Rattle.lines.specs.Rules.{Every}
 use Rattle.reader.specs.Stages.{SmallGas}
-use Rattle.entries.proofs.Lists.{every-replicate, every-set}
+use Rattle.lines.proofs.Lists.{every-replicate, every-set}
 use Rattle.entries.proofs.Places.{ready-after}
 use Rattle.reader.proofs.Fills.{filled-none, filled-next}
 use Rattle.reader.proofs.rows.stage_rows.Statement.{statement}
