@@ -1,11 +1,11 @@
 -- One line more into a block's array. Assumes nothing.
-use Prim.Native.Nat.{ℕ, suc, _+_, _-_, _<_}
+use Prim.Native.Nat.{ℕ, suc, _+_, _-_, _<_, _≤_}
 use mathlib.Core.Path.{_≡_, refl, sym, ap, _∙_}
 use mathlib.Core.Bool.{true, false}
 use mathlib.Core.List.{List, [], _∷_, _++_, map-append}
 use native.Mathlib.Numerals.{add-one}
 use native.Mathlib.Omega.{arith}
-use lib.ListN.{length, take, drop, set, replicate, length-set, length-append, length-replicate}
+use lib.ListN.{length, take, drop, set, replicate, length-set, length-append, length-replicate, length-map, length-take}
 use lib.Seq.{take-suc-set, drop-drop, drop-set-lt}
 use Rattle.lines.specs.Schema.{Line, Row}
 use Rattle.lines.specs.Reader.{Sheet, Rule, filled, readLine, readRows}
@@ -29,6 +29,10 @@ module _ {A B : Type 0} (view : A → B) (of : Row → B) (blank : A) (most : �
         drop-set-lt (i + 1) lines i x (omega arith) ∙ sym (drop-drop 1 i lines) ∙ ap (drop 1) (f .rest) ∙ ap (λ (k : ℕ). drop 1 (replicate k blank)) n;
     size = length-set lines i x ∙ f .size;
   }
+
+  -- so many rows were read as the array has room for, at most
+  pub filled-most : {k : ℕ} {lines : List A} {rows : List Row} → Filled view of blank most k lines rows → k ≤ most
+  filled-most {k} {lines} {rows} f = omega (arith, f .count, f .size, length-map rows of, ap length (f .shown), length-map (take k lines) view, length-take k lines)
 
   module _ (s : List ℕ) (l : Line) (rule : Rule) (seen : Sheet) where
     pub filled-none : (p : Place) → (p .good ≡ true → Fair s p) → After s p (readRows 0 l rule seen []) p (Filled view of blank most 0 (replicate most blank))

@@ -28,13 +28,14 @@ use Rattle.reader.specs.declared.parts.SectionsPart.{SectionsPart}
 use Rattle.reader.specs.declared.surface.WallRows.{WallRows}
 use Rattle.entries.specs.Place.{Fair, After}
 use Rattle.reader.specs.Filling.{Filled}
-use Rattle.reader.specs.Blank.{blankStage, blankSetter, blankPart}
+use Rattle.reader.specs.Blank.{blankStage, blankSetter, blankPart, blankSection}
 use Rattle.entries.specs.Taking.{shares}
 use Rattle.reader.specs.Tops.{upperParts, lowerParts, UpperShown, LowerShown}
 use Rattle.reader.specs.Surface.{SectionsShown, WallsShown}
 use Rattle.reader.specs.Blocks.{stagesOf01, settersOf01, partsOf01, sectionsOf01, wallsOf01, StagesRead, SettersRead, PartsRead, SectionsRead, WallsRead}
 use Rattle.reader.specs.Whole.{headOf, top, Held}
 use Rattle.entries.proofs.Places.{after-bind}
+use Rattle.reader.proofs.Fills.{filled-most}
 use Rattle.reader.proofs.Sequence.{pass-on, then-line, then-part, then-parts, parts-done, one-after}
 
 -- ---- walls: a sheet that has the sections and the number of stages asked for can always be had
@@ -114,7 +115,16 @@ module _ (u : Upper) (l : Lower) (a : StagesPart) (b : SettersPart) (c : PartsPa
       };
       readings = fw .lie ∙ ap (λ (x : List Section). laid x (replicate 144 unread) (map wallOf wa)) (fd .filled .shown);
     };
-    trimmed = record { stages = fa .rest; setters = fb .rest; parts = fc .rest; sections = fd .filled .rest };
+    trimmed = record {
+      stages = fa .rest;
+      setters = fb .rest;
+      parts = fc .rest;
+      sections = fd .filled .rest;
+      stagesFit = filled-most stage stageOf blankStage 12 fa;
+      settersFit = filled-most setter setterOf blankSetter 32 fb;
+      partsFit = filled-most part partOf blankPart 32 fc;
+      sectionsFit = filled-most section sectionOf blankSection 12 (fd .filled);
+    };
     stagesAre = fa .count;
     sectionsAre = fd .filled .count;
     distinct = fd .distinct;

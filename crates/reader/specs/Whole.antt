@@ -35,12 +35,16 @@ headOf u l = record { firing = u .firing; product = u .product; ambient = u .amb
 abbrev pub top : Place
 top = record { good = true; refusal = Accepted; line = 1; at = 0 }
 
--- beyond their counts the blocks are blank
+-- the counts are within their arrays, beyond which nothing could be shown, and beyond their counts the blocks are blank
 pub record Trimmed (x : Sheetˢ) : Type 0 where
   pub stages : drop (x .stages .count .0) (x .stages .lines) ≡ replicate (12 - x .stages .count .0) blankStage
   pub setters : drop (x .setters .count .0) (x .setters .lines) ≡ replicate (32 - x .setters .count .0) blankSetter
   pub parts : drop (x .parts .count .0) (x .parts .lines) ≡ replicate (32 - x .parts .count .0) blankPart
   pub sections : drop (x .sections .count .0) (x .sections .lines) ≡ replicate (12 - x .sections .count .0) blankSection
+  pub stagesFit : x .stages .count .0 ≤ 12
+  pub settersFit : x .setters .count .0 ≤ 32
+  pub partsFit : x .parts .count .0 ≤ 32
+  pub sectionsFit : x .sections .count .0 ≤ 12
 
 -- the struct holds what the rows of a sheet say, and its rules of sections and walls were kept
 pub record Held (x : Sheetˢ) (sheet : Sheet) : Type 0 where
