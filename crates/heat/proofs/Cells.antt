@@ -25,8 +25,8 @@ use Rattle.sheet.specs.Firing.{Section, Wall, Firing}
 use Rattle.sheet.specs.Shown.{stage, section, same, before, cell, reading, unread, laid}
 use Rattle.lines.specs.Rules.{Every, Some}
 use Rattle.lines.specs.Limits.{StageIn, SectionIn, WallIn, Apart}
-use Rattle.heat.specs.Rounding.{paper}
-use Rattle.heat.specs.Formulas.{sum, noSection, noStage, numbered, sectionOf, stageOf, convection, radiation, flux, wallHeat, x9}
+use Rattle.formulas.specs.Rounding.{paper}
+use Rattle.formulas.specs.Formulas.{sum, noSection, noStage, numbered, sectionOf, stageOf, convection, radiation, flux, wallHeat, x9}
 use Rattle.heat.specs.Cells.{ReadingIn, cellHeat, CellIn, Seen}
 use Rattle.lines.proofs.Lists.{every-at}
 use Rattle.heat.proofs.Sums.{blankStage, blankSection}

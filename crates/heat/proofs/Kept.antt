@@ -9,8 +9,8 @@ use Rattle.sheet.specs.Firing.{Firing}
 use Rattle.sheet.specs.Shown.{firing}
 use Rattle.lines.specs.Document01.{sumOf}
 use Rattle.lines.specs.Limits.{Limits}
-use Rattle.heat.specs.Formulas.{sum}
-use Rattle.heat.specs.Rounding.{Rounding}
+use Rattle.formulas.specs.Formulas.{sum}
+use Rattle.formulas.specs.Rounding.{Rounding}
 use Rattle.heat.specs.Balance.{Kept, Heat}
 use Rattle.heat.proofs.Units.{only}
 

@@ -22,9 +22,9 @@ use Rattle.lines.specs.Document01.{weigh, sumOf, all, airWeights}
 use Rattle.lines.specs.Rules.{Every}
 use Rattle.lines.specs.Rows.{gasRow}
 use Rattle.lines.specs.Limits.{In, GasIn}
-use Rattle.heat.specs.declared.mixture.Kind.{Kind}
-use Rattle.heat.specs.Tables.{tableA1, kind}
-use Rattle.heat.specs.Formulas.{mixedHeat, theoreticalAir, dryOfGas, vapourOfGas}
+use Rattle.formulas.specs.declared.Kind.{Kind}
+use Rattle.formulas.specs.Tables.{tableA1, kind}
+use Rattle.formulas.specs.Formulas.{mixedHeat, theoreticalAir, dryOfGas, vapourOfGas}
 use Rattle.heat.specs.Figures.{Within}
 use Rattle.heat.specs.Mixture.{Fits}
 use Rattle.heat.proofs.Sizes.{sized, entry}

@@ -19,10 +19,10 @@ use Rattle.arith.proofs.Machine.{Known, small, range, Mx, raw, num, _⟨*⟩_, 
 use Rattle.lines.specs.Schema.{Field}
 use Rattle.lines.specs.Limits.{In}
 use Rattle.lines.specs.Document01.{all}
-use Rattle.heat.specs.declared.material.Line.{Line}
-use Rattle.heat.specs.Tables.{tableA2, line, lineAt}
-use Rattle.heat.specs.Formulas.{byTable, placed}
-use Rattle.heat.specs.Rounding.{square}
+use Rattle.formulas.specs.declared.Line.{Line}
+use Rattle.formulas.specs.Tables.{tableA2, line, lineAt}
+use Rattle.formulas.specs.Formulas.{byTable, placed}
+use Rattle.formulas.specs.Rounding.{square}
 use Rattle.heat.specs.Steps.{StraightFits}
 use Rattle.heat.specs.Figures.{Within}
 

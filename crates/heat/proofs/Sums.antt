@@ -20,7 +20,7 @@ use Rattle.sheet.specs.declared.Section.{Section as Sectionˢ}
 use Rattle.sheet.specs.declared.Setter.{Setter as Setterˢ}
 use Rattle.sheet.specs.declared.Part.{Part as Partˢ}
 use Rattle.lines.specs.Rules.{Every}
-use Rattle.heat.specs.Formulas.{sum}
+use Rattle.formulas.specs.Formulas.{sum}
 use Rattle.heat.specs.Figures.{Is, Figure}
 use Rattle.heat.proofs.Units.{plus}
 

@@ -9,7 +9,7 @@ use Rattle.arith.specs.Nearest.{nearest}
 use Rattle.arith.proofs.Ring.{v, #, _⊕_, _⊖_, _⊗_, ring, ringℕ}
 use Rattle.arith.proofs.Order.{≤ℤ-antisym, *ℤ-cancel-≤}
 use Rattle.arith.proofs.NearestLaws.{nearest-scaled, nearest-bound}
-use Rattle.heat.specs.Rounding.{paper}
+use Rattle.formulas.specs.Rounding.{paper}
 use Rattle.heat.specs.Figures.{Is, Within, Figure}
 
 pub units : {k : ℕ} {n : ℤ} → Is k n (n *ℤ pos k)

@@ -15,8 +15,8 @@ use Rattle.sheet.specs.Firing.{Stage, Section, Wall, Firing}
 use Rattle.sheet.specs.Shown.{section, laid, unread}
 use Rattle.lines.specs.Quantities.{surface, nearAir, minutes}
 use Rattle.lines.specs.Limits.{In, StageIn, SectionIn, Limits}
-use Rattle.heat.specs.Rounding.{paper}
-use Rattle.heat.specs.Formulas.{wallHeat}
+use Rattle.formulas.specs.Rounding.{paper}
+use Rattle.formulas.specs.Formulas.{wallHeat}
 use Rattle.heat.specs.Steps.{stagesOf}
 
 -- ---- steps

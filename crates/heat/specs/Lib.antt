@@ -1,7 +1,3 @@
-pub mod Rounding
-pub mod Tables
-pub mod Formulas
-pub mod Marked
 pub mod Figures
 pub mod Steps
 pub mod Mixture

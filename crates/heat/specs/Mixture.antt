@@ -4,10 +4,10 @@ use lib.IntN.{ℤ, pos, _+ℤ_, _-ℤ_, _*ℤ_}
 use mir.Syntax.{w64}
 use mir.Val.{SFits}
 use Rattle.sheet.specs.Firing.{Gas}
-use Rattle.heat.specs.declared.mixture.Kind.{Kind}
+use Rattle.formulas.specs.declared.Kind.{Kind}
 use Rattle.heat.specs.declared.mixture.Warmth.{Warmth}
 use Rattle.heat.specs.declared.mixture.Burning.{Burning}
-use Rattle.heat.specs.Formulas.{mixedHeat, theoreticalAir, dryOfGas, vapourOfGas}
+use Rattle.formulas.specs.Formulas.{mixedHeat, theoreticalAir, dryOfGas, vapourOfGas}
 use Rattle.heat.specs.Figures.{Within, Exact}
 
 -- a column's sum with one gas more, which does not overflow

@@ -15,7 +15,7 @@ use Rattle.lines.specs.Quantities.{product, ambient, heating, fuelTemperature, 
 use Rattle.lines.specs.Rules.{Every}
 use Rattle.lines.specs.Limits.{In, StuffIn, StageIn, WareIn, WaterIn}
 use Rattle.heat.specs.declared.mixture.Burning.{Burning}
-use Rattle.heat.specs.Tables.{lineOf, lineAt}
+use Rattle.formulas.specs.Tables.{lineOf, lineAt}
 use Rattle.heat.specs.Figures.{Within}
 use Rattle.heat.specs.Mixture.{Burnt}
 

@@ -12,7 +12,7 @@ mod water;
 ghost use mathlib.Core.Path.{_≡_};
 ghost use lib.IntN.{_+ℤ_};
 ghost use Rattle.sheet.specs.Firing.{Firing};
-ghost use Rattle.heat.specs.Formulas.{q1, q2, spent, useful};
+ghost use Rattle.formulas.specs.Formulas.{q1, q2, spent, useful};
 ghost use Rattle.heat.specs.Steps.{ThreeFits, FiveFits};
 ghost use Rattle.heat.specs.Balance.{Kept, Heat, Incomes, SolidHeats, GasHeats, Balanced};
 use flue::x7;

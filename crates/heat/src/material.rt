@@ -5,11 +5,12 @@ ghost use lib.IntN.{ℤ, pos, _+ℤ_, _*ℤ_};
 ghost use mir.Syntax.{w64};
 ghost use mir.Val.{SFits};
 ghost use Rattle.sheet.specs.Shown.{stuff as stuffOf};
-ghost use Rattle.heat.specs.Rounding.{paper};
-ghost use Rattle.heat.specs.Formulas.{joule, specificHeat, sensible};
+ghost use Rattle.formulas.specs.Rounding.{paper};
+ghost use Rattle.formulas.specs.Formulas.{joule, specificHeat, sensible};
 ghost use Rattle.heat.specs.Figures.{Exact, Figure};
 ghost use Rattle.heat.specs.Steps.{RowIs, StraightFits, Heated, ProductFits, Warmed};
 use crate::rounding::Microjoules;
+use formulas::Line;
 use quantity::heat::Joules;
 use quantity::heat::SpecificHeat;
 use quantity::kiln::Material;
@@ -17,12 +18,6 @@ use quantity::mass::Kilos;
 use quantity::temperature::Degrees;
 use quantity::temperature::Rise;
 use sheet::Stuff;
-
-// A line of table A.2: a + b T, with a in 0.01 and b in 1e-6 kJ/(kg·°C).
-pub struct Line {
-    pub a: i64,
-    pub b: i64,
-}
 
 // A specific heat, in 1e-7 kJ/(kg·°C).
 pub struct Capacity(pub i64);

@@ -2,17 +2,8 @@
 ghost use Rattle.sheet.specs.Shown.{gas as gasOf};
 ghost use Rattle.lines.specs.Limits.{GasIn};
 ghost use Rattle.heat.specs.Mixture.{WarmthFits, Warmer, Warmed, BurningFits, Brighter, Burnt};
+use formulas::Kind;
 use quantity::gas::Share;
-
-// A gas of table A.1: c at 0 and at 100 °C in 0.001 kJ/(m³·°C), and for each share of it the theoretical air in 0.0001 and the
-// cubic metres of dry flue and of vapour.
-pub struct Kind {
-    pub cold: i64,
-    pub hot: i64,
-    pub air: i64,
-    pub dry: i64,
-    pub vapour: i64,
-}
 
 // What the shares come to in specific heat: c at 0 °C and its rise to 100 °C, in 1e-7 kJ/(m³·°C).
 pub struct Warmth {

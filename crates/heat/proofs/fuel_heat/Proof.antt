@@ -4,7 +4,7 @@ use borrow.Author.Needs.{needs}
 use Rattle.sheet.specs.Firing.{Gas, Stage}
 use Rattle.lines.specs.Quantities.{gasTotal}
 use Rattle.lines.specs.Limits.{In}
-use Rattle.heat.specs.Formulas.{totalGas}
+use Rattle.formulas.specs.Formulas.{totalGas}
 use Rattle.heat.specs.Mixture.{Warmed}
 use Rattle.heat.specs.Steps.{stagesOf}
 use Rattle.heat.proofs.Kept.{own, field, sum-of}

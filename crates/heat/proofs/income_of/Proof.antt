@@ -3,7 +3,7 @@ use mathlib.Core.Path.{sym, _∙_}
 use mathlib.Core.List.{[], _∷_}
 use borrow.Author.Needs.{needs}
 use Rattle.arith.proofs.Machine.{raw, _⟨+⟩_}
-use Rattle.heat.specs.Formulas.{income}
+use Rattle.formulas.specs.Formulas.{income}
 use Rattle.heat.proofs.Units.{plus}
 use Rattle.heat.proofs.Sizes.{within, sized, most, fit}
 use Rattle.heat.proofs.Kept.{own, field}

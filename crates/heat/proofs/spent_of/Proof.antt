@@ -7,8 +7,8 @@ use Rattle.arith.proofs.Machine.{Known, Mx, raw, _⟨+⟩_}
 use Rattle.sheet.specs.Firing.{Firing}
 use Rattle.heat.specs.declared.Solids.{Solids}
 use Rattle.heat.specs.declared.Gases.{Gases}
-use Rattle.heat.specs.Rounding.{paper}
-use Rattle.heat.specs.Formulas.{joule, x1, x2, x3, x5, x7, x8, x9, x10, spent}
+use Rattle.formulas.specs.Rounding.{paper}
+use Rattle.formulas.specs.Formulas.{joule, x1, x2, x3, x5, x7, x8, x9, x10, spent}
 use Rattle.heat.specs.Figures.{Figure}
 use Rattle.heat.specs.Balance.{SolidHeats, GasHeats}
 use Rattle.heat.proofs.Units.{plus}

@@ -1,7 +1,7 @@
 -- The water's heat by its function, and the sum. Assumes nothing.
 use mathlib.Core.List.{[], _∷_}
 use Rattle.arith.proofs.Machine.{raw, _⟨+⟩_}
-use Rattle.heat.specs.Formulas.{useful}
+use Rattle.formulas.specs.Formulas.{useful}
 use Rattle.heat.proofs.Units.{plus}
 use Rattle.heat.proofs.Sizes.{within, most, fit}
 use Rattle.heat.proofs.Kept.{own, field}

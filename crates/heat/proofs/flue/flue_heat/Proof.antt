@@ -2,7 +2,7 @@
 use mathlib.Core.List.{[], _∷_}
 use borrow.Author.Needs.{needs}
 use Rattle.arith.proofs.Machine.{raw, _⟨+⟩_}
-use Rattle.heat.specs.Formulas.{flueHeat}
+use Rattle.formulas.specs.Formulas.{flueHeat}
 use Rattle.heat.proofs.Units.{plus}
 use Rattle.heat.proofs.Sizes.{within, most, fit}
 use Rattle.heat.proofs.flue.flue_heat.Statement.{statement}

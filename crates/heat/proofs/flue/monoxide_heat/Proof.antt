@@ -5,7 +5,7 @@ use borrow.Author.Needs.{needs}
 use lib.Dec.{lit<}
 use lib.IntN.{pos}
 use Rattle.arith.proofs.Machine.{raw, num, _⟨*⟩_}
-use Rattle.heat.specs.Formulas.{joule, monoxideHeat}
+use Rattle.formulas.specs.Formulas.{joule, monoxideHeat}
 use Rattle.heat.proofs.Units.{times, finer, rounded}
 use Rattle.heat.proofs.Sizes.{limits, within, most, fit}
 use Rattle.heat.proofs.flue.monoxide_heat.Statement.{statement}

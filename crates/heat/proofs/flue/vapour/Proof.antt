@@ -4,7 +4,7 @@ use Prim.Native.Nat.{_*_, _^_}
 use borrow.Author.Needs.{needs}
 use lib.Dec.{lit<}
 use Rattle.arith.proofs.Machine.{raw, _⟨*⟩_}
-use Rattle.heat.specs.Formulas.{vapour}
+use Rattle.formulas.specs.Formulas.{vapour}
 use Rattle.heat.proofs.Units.{times, rounded}
 use Rattle.heat.proofs.Sizes.{limits, within, most, fit}
 use Rattle.heat.proofs.flue.vapour.Statement.{statement}

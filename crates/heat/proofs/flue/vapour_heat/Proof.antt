@@ -5,7 +5,7 @@ use borrow.Author.Needs.{needs}
 use lib.Dec.{lit<}
 use lib.IntN.{pos, _-ℤ_}
 use Rattle.arith.proofs.Machine.{raw, num, _⟨-⟩_, _⟨*⟩_}
-use Rattle.heat.specs.Formulas.{joule, vapourHeat}
+use Rattle.formulas.specs.Formulas.{joule, vapourHeat}
 use Rattle.heat.proofs.Units.{times, finer, rounded}
 use Rattle.heat.proofs.Sizes.{limits, within, most, fit}
 use Rattle.heat.proofs.flue.vapour_heat.Statement.{statement}

@@ -7,7 +7,7 @@ use lib.IntN.{ℤ, pos}
 use Rattle.arith.proofs.Machine.{Known, Mx, raw, num, _⟨+⟩_, _⟨*⟩_}
 use Rattle.sheet.specs.Firing.{Stage}
 use Rattle.heat.specs.declared.mixture.Burning.{Burning}
-use Rattle.heat.specs.Formulas.{vapourRate}
+use Rattle.formulas.specs.Formulas.{vapourRate}
 use Rattle.heat.specs.Steps.{MoistIn}
 use Rattle.heat.proofs.Units.{exactly, rounded}
 use Rattle.heat.proofs.Sizes.{limits, within, most, fit}

@@ -9,8 +9,8 @@ use Rattle.sheet.specs.declared.Stage.{Stage as Stageˢ}
 use Rattle.sheet.specs.Firing.{Gas}
 use Rattle.sheet.specs.Shown.{stage}
 use Rattle.lines.specs.Limits.{StageIn}
-use Rattle.heat.specs.Rounding.{paper}
-use Rattle.heat.specs.Formulas.{joule, sum, flueHeat, x7}
+use Rattle.formulas.specs.Rounding.{paper}
+use Rattle.formulas.specs.Formulas.{joule, sum, flueHeat, x7}
 use Rattle.heat.specs.Mixture.{Burnt}
 use Rattle.heat.proofs.Sums.{unmapped, blankStage, first, each, Running, none, more-fits, summed, blocked}
 use Rattle.heat.proofs.flue.x7.Statement.{statement}

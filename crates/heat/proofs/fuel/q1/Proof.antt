@@ -3,7 +3,7 @@ use mathlib.Core.List.{[], _∷_}
 use lib.IntN.{pos}
 use mir.Syntax.{w64}
 use Rattle.arith.proofs.Machine.{arg, num, _⟨*⟩_, fits, result}
-use Rattle.heat.specs.Formulas.{q1}
+use Rattle.formulas.specs.Formulas.{q1}
 use Rattle.heat.proofs.Units.{units}
 use Rattle.heat.proofs.Sizes.{limits, most}
 use Rattle.heat.proofs.fuel.q1.Statement.{statement}

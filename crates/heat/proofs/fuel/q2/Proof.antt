@@ -5,7 +5,7 @@ use borrow.Author.Needs.{needs}
 use lib.Dec.{lit<}
 use lib.IntN.{ℤ, pos}
 use Rattle.arith.proofs.Machine.{Known, Mx, raw, num, _⟨+⟩_, _⟨-⟩_, _⟨*⟩_}
-use Rattle.heat.specs.Formulas.{joule, q2}
+use Rattle.formulas.specs.Formulas.{joule, q2}
 use Rattle.heat.specs.Steps.{WarmFuelIn}
 use Rattle.heat.proofs.Units.{units, rounded}
 use Rattle.heat.proofs.Sizes.{limits, within, most, fit}

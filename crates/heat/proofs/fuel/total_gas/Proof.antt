@@ -10,7 +10,7 @@ use Rattle.sheet.specs.declared.Stage.{Stage as Stageˢ}
 use Rattle.sheet.specs.Firing.{Stage}
 use Rattle.sheet.specs.Shown.{stage}
 use Rattle.lines.specs.Limits.{StageIn}
-use Rattle.heat.specs.Formulas.{sum}
+use Rattle.formulas.specs.Formulas.{sum}
 use Rattle.heat.specs.Figures.{Figure}
 use Rattle.heat.proofs.Units.{exactly, as-it-is}
 use Rattle.heat.proofs.Sizes.{sized}

@@ -12,7 +12,7 @@ use lib.Signed.{leZ}
 use mir.Syntax.{w64}
 use mir.Val.{SFits}
 use mir.Facts.{toZ-ofZ}
-use Rattle.heat.specs.Tables.{lineOf, lineAt}
+use Rattle.formulas.specs.Tables.{lineOf, lineAt}
 use Rattle.heat.specs.Steps.{RowIs}
 use Rattle.heat.proofs.material.row.Statement.{statement}
 use Rattle.heat.proofs.material.row.Tie as tie

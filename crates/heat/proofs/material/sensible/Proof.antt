@@ -4,7 +4,7 @@ use Prim.Native.Nat.{_/_, _^_}
 use borrow.Author.Needs.{needs}
 use lib.Dec.{lit<}
 use Rattle.arith.proofs.Machine.{raw, _⟨-⟩_, _⟨*⟩_}
-use Rattle.heat.specs.Formulas.{joule, sensible}
+use Rattle.formulas.specs.Formulas.{joule, sensible}
 use Rattle.heat.proofs.Units.{units, rounded}
 use Rattle.heat.proofs.Sizes.{within, most, fit}
 use Rattle.heat.proofs.material.sensible.Statement.{statement}

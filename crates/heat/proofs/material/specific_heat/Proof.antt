@@ -9,9 +9,9 @@ use lib.Dec.{eqb}
 use lib.IntN.{pos, _*ℤ_, _+ℤ_}
 use Rattle.arith.proofs.Machine.{raw, num, _⟨*⟩_}
 use Rattle.arith.proofs.Order.{arithℤ}
-use Rattle.heat.specs.declared.material.Line.{Line}
-use Rattle.heat.specs.Tables.{lineOf}
-use Rattle.heat.specs.Formulas.{specificHeat, byTable}
+use Rattle.formulas.specs.declared.Line.{Line}
+use Rattle.formulas.specs.Tables.{lineOf}
+use Rattle.formulas.specs.Formulas.{specificHeat, byTable}
 use Rattle.heat.proofs.Sizes.{limits, most, fit, straight-fits, straight-size}
 use Rattle.heat.proofs.material.specific_heat.Statement.{statement}
 use Rattle.heat.proofs.material.specific_heat.Tie as tie

@@ -10,8 +10,8 @@ use Rattle.sheet.specs.declared.Setter.{Setter as Setterˢ}
 use Rattle.sheet.specs.Firing.{Setter}
 use Rattle.sheet.specs.Shown.{setter}
 use Rattle.lines.specs.Limits.{SetterIn}
-use Rattle.heat.specs.Rounding.{paper}
-use Rattle.heat.specs.Formulas.{joule, sum, sensible, q3}
+use Rattle.formulas.specs.Rounding.{paper}
+use Rattle.formulas.specs.Formulas.{joule, sum, sensible, q3}
 use Rattle.heat.proofs.Sizes.{sized}
 use Rattle.heat.proofs.Sums.{unmapped, blankSetter, first, each, Running, none, more-fits, summed, blocked}
 use Rattle.heat.proofs.records.q3.Statement.{statement}

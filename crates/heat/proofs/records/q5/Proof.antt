@@ -1,5 +1,5 @@
 -- `sensible` is the formula, and the ware is within its limits. Assumes nothing.
-use Rattle.heat.specs.Formulas.{q5}
+use Rattle.formulas.specs.Formulas.{q5}
 use Rattle.heat.proofs.Sizes.{sized}
 use Rattle.heat.proofs.records.q5.Statement.{statement}
 use Rattle.heat.proofs.records.q5.Tie as tie

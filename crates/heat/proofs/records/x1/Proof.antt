@@ -3,7 +3,7 @@ use borrow.Author.Needs.{needs}
 use mir.Syntax.{w64}
 use mir.Val.{SFits}
 use mir.Facts.{toZ-ofZ}
-use Rattle.heat.specs.Formulas.{x1}
+use Rattle.formulas.specs.Formulas.{x1}
 use Rattle.heat.proofs.Sizes.{sized}
 use Rattle.heat.proofs.records.x1.Statement.{statement}
 use Rattle.heat.proofs.records.x1.Tie as tie

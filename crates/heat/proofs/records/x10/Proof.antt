@@ -10,8 +10,8 @@ use Rattle.sheet.specs.declared.Part.{Part as Partˢ}
 use Rattle.sheet.specs.Firing.{Part}
 use Rattle.sheet.specs.Shown.{part}
 use Rattle.lines.specs.Limits.{PartIn}
-use Rattle.heat.specs.Rounding.{paper}
-use Rattle.heat.specs.Formulas.{joule, sum, sensible, x10}
+use Rattle.formulas.specs.Rounding.{paper}
+use Rattle.formulas.specs.Formulas.{joule, sum, sensible, x10}
 use Rattle.heat.proofs.Sizes.{sized}
 use Rattle.heat.proofs.Sums.{unmapped, blankPart, first, each, Running, none, more-fits, summed, blocked}
 use Rattle.heat.proofs.records.x10.Statement.{statement}

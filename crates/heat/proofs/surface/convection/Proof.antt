@@ -11,8 +11,8 @@ use mir.Val.{SFits}
 use mir.Facts.{toZ-ofZ}
 use Rattle.arith.specs.Root.{root}
 use Rattle.arith.proofs.Order.{abs≤⁺}
-use Rattle.heat.specs.Rounding.{square}
-use Rattle.heat.specs.Formulas.{placed}
+use Rattle.formulas.specs.Rounding.{square}
+use Rattle.formulas.specs.Formulas.{placed}
 use Rattle.heat.proofs.Sizes.{placed-most, term-most}
 use Rattle.heat.proofs.surface.convection.Statement.{statement}
 use Rattle.heat.proofs.surface.convection.Tie as tie

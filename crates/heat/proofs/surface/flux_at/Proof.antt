@@ -4,7 +4,7 @@ use mathlib.Core.List.{[], _∷_}
 use borrow.Author.Needs.{needs}
 use Rattle.arith.proofs.Order.{arithℤ, sub-nonneg}
 use Rattle.arith.proofs.Machine.{raw, _⟨+⟩_, _⟨-⟩_, at-most}
-use Rattle.heat.specs.Formulas.{flux, convection}
+use Rattle.formulas.specs.Formulas.{flux, convection}
 use Rattle.heat.specs.Cells.{wallOf}
 use Rattle.heat.proofs.Units.{units, same, plus}
 use Rattle.heat.proofs.Sizes.{within, limits, most, fit}

@@ -6,7 +6,7 @@ use borrow.Author.Needs.{needs}
 use lib.Dec.{lit<}
 use lib.IntN.{ℤ, pos}
 use Rattle.arith.proofs.Machine.{Known, Mx, raw, num, _⟨+⟩_, _⟨-⟩_, _⟨*⟩_}
-use Rattle.heat.specs.Formulas.{radiation}
+use Rattle.formulas.specs.Formulas.{radiation}
 use Rattle.heat.specs.Cells.{HotIn}
 use Rattle.heat.proofs.Units.{exactly, rounded}
 use Rattle.heat.proofs.Sizes.{limits, most, fit}

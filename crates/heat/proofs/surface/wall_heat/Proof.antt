@@ -7,7 +7,7 @@ use lib.Dec.{lit<}
 use lib.IntN.{pos}
 use Rattle.arith.proofs.Ring.{v, #, _⊗_, ring}
 use Rattle.arith.proofs.Machine.{raw, num, _⟨*⟩_}
-use Rattle.heat.specs.Formulas.{joule, wallHeat}
+use Rattle.formulas.specs.Formulas.{joule, wallHeat}
 use Rattle.heat.specs.Cells.{wallOf}
 use Rattle.heat.proofs.Units.{same, times, finer, coarser, rounded}
 use Rattle.heat.proofs.Sizes.{within, limits, most, fit}

@@ -5,7 +5,7 @@ use Prim.Native.Nat.{_≤_, _-_}
 use native.Mathlib.Omega.{arith}
 use borrow.Author.Needs.{needs}
 use lib.Dec.{lit≤}
-use Rattle.heat.specs.Formulas.{joule}
+use Rattle.formulas.specs.Formulas.{joule}
 use Rattle.heat.proofs.Sums.{Running, none, more, more-fits, at-most}
 use Rattle.heat.proofs.Cells.{sumTo, sum-next, coded, cell-in, coded-total}
 use Rattle.heat.proofs.surface.x9.Statement.{statement}

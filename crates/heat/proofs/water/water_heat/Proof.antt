@@ -8,7 +8,7 @@ use Rattle.arith.proofs.Machine.{Mx, upto, raw, num, _⟨+⟩_, _⟨-⟩_, _⟨
 use Rattle.lines.specs.Quantities.{temperature}
 use Rattle.lines.specs.Limits.{In}
 use Rattle.heat.specs.Steps.{BoiledFits}
-use Rattle.heat.specs.Formulas.{joule, waterHeat}
+use Rattle.formulas.specs.Formulas.{joule, waterHeat}
 use Rattle.heat.proofs.Units.{units, rounded}
 use Rattle.heat.proofs.Sizes.{limits, most, fit}
 use Rattle.heat.proofs.water.water_heat.Statement.{statement}

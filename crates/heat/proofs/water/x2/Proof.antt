@@ -5,7 +5,7 @@ use borrow.Author.Needs.{needs}
 use lib.Dec.{lit<}
 use lib.IntN.{pos}
 use Rattle.arith.proofs.Machine.{raw, num, _⟨+⟩_, _⟨-⟩_, _⟨*⟩_}
-use Rattle.heat.specs.Formulas.{joule, x2}
+use Rattle.formulas.specs.Formulas.{joule, x2}
 use Rattle.heat.proofs.Units.{units, rounded}
 use Rattle.heat.proofs.Sizes.{limits, most, fit}
 use Rattle.heat.proofs.water.x2.Statement.{statement}

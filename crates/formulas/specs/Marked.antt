@@ -8,8 +8,8 @@ use Rattle.arith.specs.Nearest.{nearest, nearestℕ, tie}
 use Rattle.arith.specs.Root.{root, rootIn}
 use Rattle.sheet.specs.Firing.{Gas, Stuff, Stage, Section, Wall, Firing}
 use Rattle.sheet.specs.Shown.{same}
-use Rattle.heat.specs.Rounding.{paper}
-use Rattle.heat.specs.Formulas.{joule, sum, specificHeat, sensible, mixedHeat, theoreticalAir, dryOfGas, vapourOfGas, dryFlue, vapourRate, vapour, dryHeat, vapourHeat, flueHeat, monoxideHeat, numbered, convection, radiation, flux, wallHeat, q1, q2, q3, q5, q8, income, x1, x2, x3, x5, x7, x8, x9, x10, spent, x11, waterHeat, useful, withset}
+use Rattle.formulas.specs.Rounding.{paper}
+use Rattle.formulas.specs.Formulas.{joule, sum, specificHeat, sensible, mixedHeat, theoreticalAir, dryOfGas, vapourOfGas, dryFlue, vapourRate, vapour, dryHeat, vapourHeat, flueHeat, monoxideHeat, numbered, convection, radiation, flux, wallHeat, q1, q2, q3, q5, q8, income, x1, x2, x3, x5, x7, x8, x9, x10, spent, x11, waterHeat, useful, withset}
 
 abbrev methane : Gas
 methane = record {

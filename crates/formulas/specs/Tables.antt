@@ -7,8 +7,8 @@ use lib.Dec.{eqb}
 use lib.IntN.{ℤ, pos, negsuc}
 use lib.ListN.{getD}
 use lib.Signed.{leZ}
-use Rattle.heat.specs.declared.material.Line.{Line}
-use Rattle.heat.specs.declared.mixture.Kind.{Kind}
+use Rattle.formulas.specs.declared.Line.{Line}
+use Rattle.formulas.specs.declared.Kind.{Kind}
 
 -- a + b T, with a in 0.01 and b in 1e-6 kJ/(kg·°C)
 abbrev pub line : ℕ → ℕ → Line

@@ -10,8 +10,8 @@ use Rattle.sheet.specs.Firing.{Stuff, Gas, Stage, Section, Wall, Firing}
 use Rattle.sheet.specs.Shown.{same}
 use Rattle.lines.specs.Document01.{weigh}
 use Rattle.lines.specs.Rows.{gasRow}
-use Rattle.heat.specs.Rounding.{Rounding}
-use Rattle.heat.specs.Tables.{lineOf, lineAt, tableA1}
+use Rattle.formulas.specs.Rounding.{Rounding}
+use Rattle.formulas.specs.Tables.{lineOf, lineAt, tableA1}
 
 -- 56 because of 18/22.4, 10^17 by the finest product
 abbrev pub joule : ℕ

@@ -1,0 +1,5 @@
+pub mod Rounding
+pub mod Tables
+pub mod Formulas
+pub mod Report
+pub mod Marked

@@ -1,0 +1,18 @@
+// The formulas of a heat balance and the figures of its report, as definitions; and the rows of the standard's tables, which the code
+// and the definitions share.
+
+// A line of table A.2: a + b T, with a in 0.01 and b in 1e-6 kJ/(kg·°C).
+pub struct Line {
+    pub a: i64,
+    pub b: i64,
+}
+
+// A gas of table A.1: c at 0 and at 100 °C in 0.001 kJ/(m³·°C), and for each share of it the theoretical air in 0.0001 and the
+// cubic metres of dry flue and of vapour.
+pub struct Kind {
+    pub cold: i64,
+    pub hot: i64,
+    pub air: i64,
+    pub dry: i64,
+    pub vapour: i64,
+}
