@@ -1,0 +1,78 @@
+-- The table of keys in the code is the list of keys. Assumes nothing.
+use Prim.Native.Nat.{ℕ, zero, suc, _+_, _-_, _≤_, _<_}
+use mathlib.Core.Path.{_≡_, refl, sym, ap, ap₂, _∙_}
+use mathlib.Core.Bool.{Bool, true, _&&_}
+use mathlib.Core.Logic.{⊎-elim}
+use mathlib.Core.List.{List, [], _∷_}
+use native.Mathlib.Omega.{arith}
+use native.Mathlib.Nat.{eq-or-lt-of-le}
+use lib.ListN.{length, getD, take, drop, length-take, length-drop}
+use lib.Dec.{T, eqb, leb, leb→le, eqb→eq}
+use Rattle.text.specs.Bytes.{bytes}
+use Rattle.arith.proofs.Ring.{both-left, both-right}
+use Rattle.lines.specs.Document01.{sameKey}
+use Rattle.formulas.specs.Report.{lines, keys}
+
+-- as the code has them
+abbrev letters : List ℕ
+letters = bytes "firingq1q2q3q5q8inx1x2x3x5x7x8x9x10x11usefulwithseteff1eff2"
+
+abbrev starts : List ℕ
+starts = 0 ∷ 6 ∷ 8 ∷ 10 ∷ 12 ∷ 14 ∷ 16 ∷ 18 ∷ 20 ∷ 22 ∷ 24 ∷ 26 ∷ 28 ∷ 30 ∷ 32 ∷ 35 ∷ 38 ∷ 44 ∷ 51 ∷ 55 ∷ 59 ∷ []
+
+abbrev pub start : ℕ → ℕ
+start i = getD starts i 0
+
+abbrev pub cut : ℕ → List ℕ
+cut i = take (start (i + 1) - start i) (drop (start i) letters)
+
+-- what is asked of the table at i
+right : ℕ → Bool
+unfolding keys lines
+right i = leb (start i) (start (i + 1)) && (leb (start (i + 1)) 59 && (leb (start (i + 1) - start i) 7 && sameKey (cut i) (getD keys i [])))
+
+each : ℕ → Bool
+each zero = true
+each (suc n) = right n && each n
+
+all-right : T (each 20)
+unfolding right each keys lines
+all-right = tt
+
+each-at : (n : ℕ) → T (each n) → (i : ℕ) → i < n → T (right i)
+unfolding each
+each-at zero h i l = absurd (omega arith)
+each-at (suc n) h i l = ⊎-elim (λ (e : i ≡ n). rw e (both-left (right n) (each n) h)) (λ (k : i < n). each-at n (both-right (right n) (each n) h) i k) (eq-or-lt-of-le {n = i} {m = n} (omega arith))
+
+same-is : (a b : List ℕ) → T (sameKey a b) → a ≡ b
+same-is [] [] h = refl
+same-is [] (y ∷ b) h = absurd h
+same-is (x ∷ a) [] h = absurd h
+same-is (x ∷ a) (y ∷ b) h = ap₂ (λ (z : ℕ) (l : List ℕ). z ∷ l) (eqb→eq x y (both-left (eqb x y) (sameKey a b) h)) (same-is a b (both-right (eqb x y) (sameKey a b) h))
+
+pub record Key (i : ℕ) : Type 0 where
+  pub order : start i ≤ start (i + 1)
+  pub within : start (i + 1) ≤ 59
+  pub short : start (i + 1) - start i ≤ 7
+  pub key : cut i ≡ getD keys i []
+  pub size : length (getD keys i []) ≡ start (i + 1) - start i
+
+pub key-at : (i : ℕ) → i < 20 → Key i
+unfolding right
+key-at i h =
+    let a = leb (start i) (start (i + 1)) in
+    let b = leb (start (i + 1)) 59 in
+    let c = leb (start (i + 1) - start i) 7 in
+    let d = sameKey (cut i) (getD keys i []) in
+    let r = each-at 20 all-right i h in
+    let s = both-right a (b && (c && d)) r in
+    let t = both-right b (c && d) s in
+    let within = leb→le (start (i + 1)) 59 (both-left b (c && d) s) in
+    let key = same-is (cut i) (getD keys i []) (both-right c d t) in
+    record {
+      order = leb→le (start i) (start (i + 1)) (both-left a (b && (c && d)) r);
+      within = within;
+      short = leb→le (start (i + 1) - start i) 7 (both-left c d t);
+      key = key;
+      size = sym (ap length key) ∙ simp (length-take, length-drop) (omega arith);
+    }

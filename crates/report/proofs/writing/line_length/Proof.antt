@@ -1,0 +1,67 @@
+-- The key's length is the distance of two starts. Assumes nothing.
+use borrow.Author.Needs.{needs}
+use mathlib.Core.Path.{_≡_, ap, _∙_}
+use native.Mathlib.Omega.{arith}
+use mathlib.Core.List.{[]}
+use lib.ListN.{length, getD}
+use lib.IntN.{ℤ}
+use mir.Facts.{toZ-ofZ}
+use Rattle.text.specs.Decimal.{decimal}
+use Rattle.text.proofs.Decimal.{length-line, i64-width}
+use Rattle.formulas.specs.Report.{keys}
+use Rattle.report.proofs.Keys.{key-at}
+use Rattle.report.proofs.writing.line_length.Statement.{statement}
+use Rattle.report.proofs.writing.line_length.Tie as tie
+
+add-key : tie.Need-add-key
+add-key c = search needs
+
+mul-key : tie.Need-mul-key
+mul-key c = search needs
+
+array-read-key : tie.Need-array-read-key
+array-read-key c = search needs
+
+mul-key-2 : tie.Need-mul-key-2
+mul-key-2 c = search needs
+
+array-read-key-2 : tie.Need-array-read-key-2
+array-read-key-2 c = search needs
+
+sub-key : tie.Need-sub-key
+sub-key c = key-at (c .args .i) (c .pre) .order
+
+width-requires : tie.Need-width-requires
+width-requires c κs = search needs
+
+-- the figure's width as the call has it
+wide : (c : tie.Start) (n : ℤ) → n ≡ c .args .figure → length (decimal n) ≡ length (decimal (c .args .figure))
+wide c n e = ap (λ (x : ℤ). length (decimal x)) e
+
+add-result : tie.Need-add-result
+add-result c = omega (arith, key-at (c .before .args .i) (c .before .pre) .short, i64-width (c .before .args .figure) (c .before .fits .figure), c .width .ensures ∙ wide (c .before) _ (toZ-ofZ (c .before .fits .figure)))
+
+add-result-2 : tie.Need-add-result-2
+add-result-2 c = omega (arith, key-at (c .before .args .i) (c .before .pre) .short, i64-width (c .before .args .figure) (c .before .fits .figure), c .width .ensures ∙ wide (c .before) _ (toZ-ofZ (c .before .fits .figure)))
+
+returns : tie.Need-returns
+returns c =
+    let s = c .before in
+    let k = key-at (s .args .i) (s .pre) in
+    let w = c .width .ensures ∙ wide s _ (toZ-ofZ (s .fits .figure)) in
+    (omega (arith, length-line (getD keys (s .args .i) []) (s .args .figure), k .size, w), omega (arith, k .short, i64-width (s .args .figure) (s .fits .figure), w))
+
+pub line-length-spec : {M : Type 1} → statement M
+line-length-spec =
+    tie.close
+    (tie.spec
+    add-key
+    mul-key
+    array-read-key
+    mul-key-2
+    array-read-key-2
+    sub-key
+    width-requires
+    add-result
+    add-result-2
+    returns)

@@ -1,0 +1,9 @@
+// The report of a firing: its figures from the joules, how long it is, and its text in a lent slice.
+mod joules;
+mod writing;
+
+pub use joules::figures;
+pub use joules::of_fuel;
+pub use joules::per_tonne;
+pub use writing::length;
+pub use writing::write;

@@ -1,0 +1,85 @@
+// The lines of a report: a key and its figure, one line behind the other.
+ghost use mathlib.Core.Path.{_≡_};
+ghost use Prim.Native.Nat.{_+_, _≤_, _<_};
+ghost use mathlib.Core.List.{[]};
+ghost use lib.ListN.{length, getD};
+ghost use Rattle.text.specs.Decimal.{line};
+ghost use Rattle.text.specs.Writing.{Written};
+ghost use Rattle.formulas.specs.Report.{keys, linesText};
+
+// The keys, one after the other, and where each begins.
+const KEYS: [u8; 59] = *b"firingq1q2q3q5q8inx1x2x3x5x7x8x9x10x11usefulwithseteff1eff2";
+
+const STARTS: [usize; 21] = [
+    0,
+    6,
+    8,
+    10,
+    12,
+    14,
+    16,
+    18,
+    20,
+    22,
+    24,
+    26,
+    28,
+    30,
+    32,
+    35,
+    38,
+    44,
+    51,
+    55,
+    59,
+];
+
+// How long one line is, by its number.
+fn line_length(i: usize, figure: i64) -> usize
+    requires { ⌜ i < 20 ⌝ }
+    ensures { λ r. ⌜ r ≡ length (line (getD keys i []) figure) ⌝ }
+    ensures { λ r. ⌜ r ≤ 30 ⌝ }
+{
+    let key = STARTS[i + 1] - STARTS[i];
+    key + text::width(figure) + 2
+}
+
+// One line at a place, and where it ends.
+fn line_at(out: &mut [u8], at: usize, i: usize, figure: i64) -> usize
+    requires { ⌜ i < 20 ⌝ }
+    requires { ⌜ at + length (line (getD keys i []) figure) ≤ length (now out) ⌝ }
+    ensures { λ r. ⌜ Written at (line (getD keys i []) figure) (now (out .entry)) (now (out .exit)) r ⌝ }
+{
+    let keys = KEYS;
+    let start = STARTS[i];
+    let end = STARTS[i + 1];
+    text::line_at(out, at, &keys[start..end], figure)
+}
+
+// How long the report is; no report is longer than 600 bytes.
+pub fn length(figures: [i64; 20]) -> usize
+    ensures { λ r. ⌜ r ≡ length (linesText keys figures) ⌝ }
+    ensures { λ r. ⌜ r ≤ 600 ⌝ }
+{
+    let mut n = 0;
+    let mut i = 0;
+    while i < 20 {
+        n += line_length(i, figures[i]);
+        i += 1;
+    }
+    n
+}
+
+// Puts the report at the front, and answers how long it is.
+pub fn write(out: &mut [u8], figures: [i64; 20]) -> usize
+    requires { ⌜ length (linesText keys figures) ≤ length (now out) ⌝ }
+    ensures { λ r. ⌜ Written 0 (linesText keys figures) (now (out .entry)) (now (out .exit)) r ⌝ }
+{
+    let mut at = 0;
+    let mut i = 0;
+    while i < 20 {
+        at = line_at(out, at, i, figures[i]);
+        i += 1;
+    }
+    at
+}
