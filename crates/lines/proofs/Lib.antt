@@ -11,5 +11,6 @@ pub mod Forms
 pub mod Rows
 pub mod Kept
 pub mod Limits
+pub mod Numbering
 pub mod Document01
 pub mod Example

@@ -1,0 +1,82 @@
+-- The line that a refusal names is within the sheet, or the one behind its last: each line that is read has a byte. Assumes nothing.
+use Prim.Native.Nat.{ℕ, zero, suc, _+_, _≤_}
+use mathlib.Core.Path.{_≡_, refl, sym, ap, _∙_, subst}
+use mathlib.Core.List.{List, [], _∷_, _++_}
+use mathlib.Core.Option.{Option, none, some}
+use mathlib.Core.Bool.{Bool, true, false, cond}
+use native.Mathlib.Omega.{arith}
+use lib.ListN.{length, drop, getD, length-append}
+use lib.Dec.{ltb}
+use lib.IntN.{pos, natAbs}
+use borrow.Author.Tests.{ltb-false}
+use Rattle.sheet.specs.declared.Refusal.{Refusal}
+use Rattle.sheet.specs.declared.Refusal.the-variants.{TooLong}
+use Rattle.lines.specs.Schema.{on, Line, Row, Judged, refused, values, judge, lineText}
+use Rattle.lines.specs.Reader.{Sheet, Rule, Part, one, many, countLine, Document, Read, stopped, got, Reader, andThen, judged, readLine, filled, readRows, readPart, readParts, readLines, Answer, Refused, Good, judgedWhole, readOf}
+use Rattle.lines.proofs.Cases.{clash}
+use Rattle.lines.proofs.Judged.{judge-values, line-length}
+
+-- a line's number and the bytes that are left, of so many in all
+abbrev Reached : {A : Type 0} → ℕ → Read A → Type 0
+Reached most (stopped r n) = n ≤ most
+Reached most (got a n rest) = n + length rest ≤ most
+
+then-reached : {A B : Type 0} (r : Read A) (f : A → Reader B) (most : ℕ) → Reached most r → ((a : A) (n : ℕ) (rest : List ℕ) → n + length rest ≤ most → Reached most (f a n rest)) → Reached most (andThen r f)
+then-reached (stopped r n) f most h g = h
+then-reached (got a n rest) f most h g = g a n rest h
+
+line-reached : (l : Line) (rule : Row → Option Refusal) (n : ℕ) (text : List ℕ) (most : ℕ) → n + length text ≤ most → Reached most (readLine l rule n text)
+unfolding readLine
+line-reached l rule n text most h = here (judge l text) refl
+  where
+    ruled : (o : Option Refusal) (row : Row) (size : ℕ) → suc n + length (drop size text) ≤ most → Reached {A = Row} most (on o (got row (suc n) (drop size text)) (λ r. stopped r n))
+    ruled none row size k = k
+    ruled (some r) row size k = omega arith
+
+    here : (j : Judged) → judge l text ≡ j → Reached most (judged j rule n text)
+    here (refused r) e = omega arith
+    here (values row size) e =
+        let whole = ap length (judge-values l text row size e .whole) ∙ length-append (lineText l row) (drop size text) in
+        ruled (rule row) row size (omega (arith, whole, line-length l row))
+
+rows-reached : (k : ℕ) (l : Line) (rule : Rule) (seen : Sheet) (rows : List Row) (n : ℕ) (text : List ℕ) (most : ℕ) → n + length text ≤ most → Reached most (readRows k l rule seen rows n text)
+unfolding readRows
+rows-reached zero l rule seen rows n text most h = h
+rows-reached (suc k) l rule seen rows n text most h =
+    then-reached (readLine l (rule (seen ++ filled l rows)) n text) (λ row. readRows k l rule seen (rows ++ (row ∷ []))) most (line-reached l (rule (seen ++ filled l rows)) n text most h)
+    (λ row m rest g. rows-reached k l rule seen (rows ++ (row ∷ [])) m rest most g)
+
+part-reached : (p : Part) (seen : Sheet) (n : ℕ) (text : List ℕ) (most : ℕ) → n + length text ≤ most → Reached most (readPart p seen n text)
+part-reached (one l rule) seen n text most h =
+    then-reached (readRows 1 l rule seen [] n text) (λ rows m rest. got (seen ++ filled l rows) m rest) most (rows-reached 1 l rule seen [] n text most h) (λ rows m rest g. g)
+part-reached (many key a b l rule) seen n text most h =
+    then-reached (readLine (countLine key a b) (λ row. none) n text) _ most (line-reached (countLine key a b) (λ row. none) n text most h)
+    (λ count m rest g. then-reached (readRows (natAbs (getD (count .numbers) 0 (pos 0))) l rule seen [] m rest) (λ rows m′ rest′. got (seen ++ filled l rows) m′ rest′) most (rows-reached (natAbs (getD (count .numbers) 0 (pos 0))) l rule seen [] m rest most g) (λ rows m′ rest′ g′. g′))
+
+parts-reached : (ps : List Part) (seen : Sheet) (n : ℕ) (text : List ℕ) (most : ℕ) → n + length text ≤ most → Reached most (readParts ps seen n text)
+unfolding readParts
+parts-reached [] seen n text most h = h
+parts-reached (p ∷ ps) seen n text most h =
+    then-reached (readPart p seen n text) (λ sheet. readParts ps sheet) most (part-reached p seen n text most h) (λ sheet m rest g. parts-reached ps sheet m rest most g)
+
+lines-reached : (d : Document) (n : ℕ) (text : List ℕ) (most : ℕ) → n + length text ≤ most → Reached most (readLines d n text)
+lines-reached d n text most h =
+    then-reached (readPart (d .first) [] n text) (λ top. readParts (d .below top) top) most (part-reached (d .first) [] n text most h) (λ top m rest g. parts-reached (d .below top) top m rest most g)
+
+whole-line : (d : Document) (r : Read Sheet) (most : ℕ) → Reached most r → (x : Refusal) (n : ℕ) → judgedWhole d r ≡ Refused x n → n ≤ most
+whole-line d (stopped r m) most h x n e = let p : m ≡ n = cc in omega arith
+whole-line d (got sheet m []) most h x n e = here (d .whole sheet) e
+  where
+    here : (o : Option Refusal) → on o (Good sheet) (λ r. Refused r 0) ≡ Refused x n → n ≤ most
+    here none q = clash cc
+    here (some r) q = let p : 0 ≡ n = cc in omega arith
+whole-line d (got sheet m (b ∷ bs)) most h x n e = let p : m ≡ n = cc in omega arith
+
+-- no line is named beyond the 16,385th
+pub line-most : (d : Document) (text : List ℕ) (x : Refusal) (n : ℕ) → readOf d text ≡ Refused x n → n ≤ 16385
+unfolding readOf
+line-most d text x n e = here (ltb 16384 (length text)) refl e
+  where
+    here : (t : Bool) → ltb 16384 (length text) ≡ t → cond t (Refused TooLong 0) (judgedWhole d (readLines d 1 text)) ≡ Refused x n → n ≤ 16385
+    here true q e = let p : 0 ≡ n = cc in omega arith
+    here false q e = whole-line d (readLines d 1 text) 16385 (lines-reached d 1 text 16385 (omega (arith, ltb-false 16384 (length text) q))) x n e
