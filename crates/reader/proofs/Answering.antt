@@ -109,3 +109,11 @@ firm s r h e = here (readOf document01 s) refl h
 
 pub firm-limits : {s : List ℕ} {x : Sheetˢ} (a : Firm s x) → Limits (firingOf (a .sheet))
 firm-limits {s} a = limits (firingOf (a .sheet)) (firing-kept s (a .sheet) (a .good) .keeps)
+
+-- A REFUSED SHEET: document 01's refusal and line are those that the code answers
+pub refused-as : (s : List ℕ) (r : Outcome) → Answers (readOf document01 s) r → r .accepted ≡ false → readOf document01 s ≡ Refused (r .refusal) (r .line)
+refused-as s r h e = here (readOf document01 s) h
+  where
+    here : (a : Answer) → Answers a r → a ≡ Refused (r .refusal) (r .line)
+    here (Refused x n) k = rw k refl
+    here (Good sheet) k = not-both (r .accepted) (k .0) e

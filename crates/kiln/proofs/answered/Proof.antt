@@ -1,0 +1,74 @@
+-- An accepted sheet shows a firing that keeps the rules; a refused one has document 01's refusal. Assumes nothing.
+use borrow.Author.Needs.{needs}
+use Prim.Native.Nat.{ℕ}
+use mathlib.Core.Path.{_≡_, ap, _∙_}
+use mathlib.Core.List.{List}
+use native.Mathlib.Omega.{arith}
+use lib.ListN.{length}
+use lib.IntN.{ℤ}
+use Rattle.sheet.specs.declared.Sheet.{Sheet}
+use Rattle.lines.specs.Rows.{firingOf}
+use Rattle.lines.proofs.Numbering.{refuses}
+use Rattle.formulas.specs.Report.{keys, linesText, report}
+use Rattle.heat.specs.Balance.{Kept}
+use Rattle.reader.proofs.Answering.{Firm, firm, firm-limits, refused-as}
+use Rattle.kiln.specs.Answer.{fitted, placed}
+use Rattle.kiln.proofs.Answering.{answer-good, buffer-good, short-good, answer-bad, buffer-bad, short-bad}
+use Rattle.kiln.proofs.answered.Statement.{statement}
+use Rattle.kiln.proofs.answered.Tie as tie
+
+read-requires : tie.Need-read-requires
+read-requires c κs = search needs
+
+-- what was accepted
+abbrev firing : (c : tie.After-sheet) → Firm (c .before .before .before .before .before .args .sheet .now) (c .before .before .read .result .sheet)
+firing c = firm _ (c .before .before .read .result) (c .before .before .read .ensures) (c .before .if1 .taken)
+
+kept : {s : List ℕ} {x : Sheet} (a : Firm s x) → Kept x (firingOf (a .sheet))
+kept a = record { shows = a .shows; limits = firm-limits a }
+
+figures-requires : tie.Need-figures-requires
+figures-requires c κs = (firingOf (firing c .sheet), kept (firing c))
+
+reported-requires : tie.Need-reported-requires
+reported-requires c κs = search needs
+
+same-length : tie.Need-same-length
+same-length c = search needs
+
+returns : tie.Need-returns
+unfolding report
+returns c =
+    let w = c .before .before .reported .ensures in
+    let d = c .before .before .before .before in
+    let s = d .before .before .before .before .before .before in
+    let a = firing (d .before) in
+    let text : linesText keys (d .figures .result) ≡ report (firingOf (a .sheet)) = ap (linesText keys) (d .figures .ensures (firingOf (a .sheet)) (kept a)) in (
+      w .0 ∙ ap (λ (t : List ℕ). fitted t (length (s .args .room .now))) text ∙ answer-good (s .args .sheet .now) (a .good) (length (s .args .room .now)),
+      (w .1 .0 ∙ ap (λ (t : List ℕ). placed t (s .args .room .now)) text ∙ buffer-good (s .args .sheet .now) (a .good) (s .args .room .now), short-good (s .args .sheet .now) (a .good) (rw text at (w .1 .1))),
+    )
+
+refused-requires : tie.Need-refused-requires
+refused-requires c κs =
+    let r = c .before .read in
+    let e = refused-as _ (r .result) (r .ensures) (c .if1 .left) in
+    omega (arith, refuses _ (r .result .refusal) (r .result .line) e .within)
+
+returns-2 : tie.Need-returns-2
+returns-2 c =
+    let r = c .before .before .read in
+    let s = c .before .before .before .before .before in
+    let e = refused-as _ (r .result) (r .ensures) (c .before .if1 .left) in
+    (c .refused .ensures ∙ answer-bad (s .args .sheet .now) e (length (s .args .room .now)), (buffer-bad (s .args .sheet .now) e (s .args .room .now), short-bad (s .args .sheet .now) e))
+
+pub answered-spec : {M : Type 1} → statement M
+answered-spec =
+    tie.close
+    (tie.spec
+    read-requires
+    figures-requires
+    reported-requires
+    same-length
+    returns
+    refused-requires
+    returns-2)

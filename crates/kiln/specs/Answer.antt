@@ -1,0 +1,57 @@
+-- THE ANSWER to every sheet and every room lent: the numbers that come back, and what each lent byte then is.
+use Prim.Native.Nat.{ℕ}
+use mathlib.Core.Bool.{cond}
+use mathlib.Core.List.{List, _++_}
+use lib.Dec.{ltb}
+use lib.IntN.{pos}
+use lib.ListN.{length}
+use Rattle.text.specs.Bytes.{bytes}
+use Rattle.text.specs.Decimal.{decimal}
+use Rattle.text.specs.Writing.{over}
+use Rattle.sheet.specs.declared.Refusal.the-variants.{Accepted, NoRoom}
+use Rattle.sheet.specs.Refusals.{number}
+use Rattle.lines.specs.Reader as lines
+use Rattle.lines.specs.Reader.{Refused, Good, readOf}
+use Rattle.lines.specs.Document01.{document01}
+use Rattle.lines.specs.Rows.{firingOf}
+use Rattle.formulas.specs.Report.{report}
+use Rattle.kiln.specs.declared.Answer.{Answer}
+
+-- a refusal by its number, with its line
+abbrev pub refusedAs : ℕ → ℕ → Answer
+refusedAs refusal line = record { refusal = refusal; line = line; length = 0 }
+
+-- a text for which so much room is lent: its length, or refusal 11
+abbrev pub fitted : List ℕ → ℕ → Answer
+fitted text room = cond (ltb room (length text)) (refusedAs (number NoRoom) 0) (record { refusal = number Accepted; line = 0; length = length text })
+
+-- and the room: as it was, or with the text at its front
+abbrev pub placed : List ℕ → List ℕ → List ℕ
+placed text old = cond (ltb (length old) (length text)) old (over 0 text old)
+
+abbrev pub answered : lines.Answer → ℕ → Answer
+answered (Refused x n) room = refusedAs (number x) n
+answered (Good sheet) room = fitted (report (firingOf sheet)) room
+
+abbrev pub left : lines.Answer → List ℕ → List ℕ
+left (Refused x n) old = old
+left (Good sheet) old = placed (report (firingOf sheet)) old
+
+-- WHAT COMES BACK for a sheet and so many bytes of room
+unfoldable pub answerOf : List ℕ → ℕ → Answer
+answerOf s room = answered (readOf document01 s) room
+
+-- WHAT THE ROOM THEN HOLDS
+unfoldable pub bufferOf : List ℕ → List ℕ → List ℕ
+bufferOf s old = left (readOf document01 s) old
+
+-- WHAT THE PROGRAM PRINTS: the report, or `refused=NUMBER,LINE` and LF
+abbrev pub refusedText : ℕ → ℕ → List ℕ
+refusedText refusal line = bytes "refused=" ++ (decimal (pos refusal) ++ (bytes "," ++ (decimal (pos line) ++ bytes "\n")))
+
+abbrev pub told : lines.Answer → List ℕ
+told (Refused x n) = refusedText (number x) n
+told (Good sheet) = report (firingOf sheet)
+
+unfoldable pub printedOf : List ℕ → List ℕ
+printedOf s = told (readOf document01 s)

@@ -1,0 +1,32 @@
+// What the program prints.
+ghost use mathlib.Core.Path.{_≡_};
+ghost use Prim.Native.Nat.{_≤_};
+ghost use lib.ListN.{length};
+ghost use Rattle.text.specs.Writing.{Written};
+ghost use Rattle.kiln.specs.Answer.{refusedText, printedOf};
+use crate::answered;
+
+// Puts `refused=NUMBER,LINE` and LF at the front, and answers how long it is.
+fn refusal_text(out: &mut [u8], refusal: u32, line: u32) -> usize
+    requires { ⌜ 40 ≤ length (now out) ⌝ }
+    ensures { λ r. ⌜ Written 0 (refusedText refusal line) (now (out .entry)) (now (out .exit)) r ⌝ }
+    ensures { λ r. ⌜ r ≤ 40 ⌝ }
+{
+    let a = text::bytes_at(out, 0, b"refused=");
+    let b = text::number_at(out, a, refusal as i64);
+    let c = text::bytes_at(out, b, b",");
+    let d = text::number_at(out, c, line as i64);
+    text::bytes_at(out, d, b"\n")
+}
+
+// Puts the whole printed text at the front: the report, or the refusal.
+pub fn print(sheet: &[u8], out: &mut [u8; 1024]) -> usize
+    ensures { λ r. ⌜ Written 0 (printedOf (now (sheet .entry))) (now (out .entry)) (now (out .exit)) r ⌝ }
+    ensures { λ r. ⌜ r ≤ 1024 ⌝ }
+{
+    let a = answered(sheet, out);
+    if a.refusal == 0 {
+        return a.length;
+    }
+    refusal_text(out, a.refusal, a.line)
+}
