@@ -22,7 +22,7 @@ fn refusal_text(out: &mut [u8], refusal: u32, line: u32) -> usize
 // Puts the whole printed text at the front: the report, or the refusal.
 pub fn print(sheet: &[u8], out: &mut [u8; 1024]) -> usize
     ensures { λ r. ⌜ Written 0 (printedOf (now (sheet .entry))) (now (out .entry)) (now (out .exit)) r ⌝ }
-    ensures { λ r. ⌜ r ≤ 1024 ⌝ }
+    ensures { λ r. ⌜ r ≤ length (now (out .exit)) ⌝ }
 {
     let a = answered(sheet, out);
     if a.refusal == 0 {

@@ -1,6 +1,6 @@
 -- The answer for this room is the report or a refusal of the sheet, whose text then goes over the room as it was. Assumes nothing.
 use borrow.Author.Needs.{needs}
-use mathlib.Core.Path.{_≡_}
+use mathlib.Core.Path.{_≡_, ap}
 use native.Mathlib.Omega.{arith}
 use Prim.Native.Nat.{_≤_, _<_}
 use lib.ListN.{length}
@@ -17,7 +17,7 @@ returns c =
     let s = c .before .before .before .before .before in
     let size : 600 ≤ length (s .args .out .now) = omega arith in
     let told = report-told (s .args .sheet .now) (s .args .out .now) (r .last .1 .0) (r .result) (r .ensures .1 .1) size (r .ensures .0) (r .ensures .1 .0) (omega arith) in
-    (told .0, omega (arith, told .1))
+    (told .0, omega (arith, told .1, size, r .kept .1 .0))
 
 refusal-text-requires : tie.Need-refusal-text-requires
 refusal-text-requires c κs = search needs
@@ -28,7 +28,7 @@ returns-2 c =
     let s = c .before .before .before .before .before .before .before in
     let size : 600 ≤ length (s .args .out .now) = omega arith in
     let told = refusal-told (s .args .sheet .now) (s .args .out .now) (r .last .1 .0) (r .result) (r .ensures .1 .1) size (r .ensures .0) (r .ensures .1 .0) (omega arith) in
-    (rw (told .0, told .1) at (c .refusal-text .ensures .0), omega (arith, c .refusal-text .ensures .1))
+    (rw (told .0, told .1) at (c .refusal-text .ensures .0), omega (arith, c .refusal-text .ensures .1, size, c .refusal-text .kept .0, ap length (told .1)))
 
 pub print-spec : {M : Type 1} → statement M
 print-spec = tie.close (tie.spec answered-requires returns refusal-text-requires returns-2)
