@@ -1,9 +1,12 @@
 -- The answer for this room is the report or a refusal of the sheet, whose text then goes over the room as it was. Assumes nothing.
 use borrow.Author.Needs.{needs}
-use mathlib.Core.Path.{_≡_, ap}
+use mathlib.Core.Path.{_≡_, ap, subst}
+use mathlib.Core.List.{List}
 use native.Mathlib.Omega.{arith}
 use Prim.Native.Nat.{_≤_, _<_}
 use lib.ListN.{length}
+use Rattle.text.specs.Writing.{Written}
+use Rattle.kiln.specs.Answer.{refusedText}
 use Rattle.kiln.proofs.Telling.{report-told, refusal-told}
 use Rattle.kiln.proofs.program.print.Statement.{statement}
 use Rattle.kiln.proofs.program.print.Tie as tie
@@ -28,7 +31,7 @@ returns-2 c =
     let s = c .before .before .before .before .before .before .before in
     let size : 600 ≤ length (s .args .out .now) = omega arith in
     let told = refusal-told (s .args .sheet .now) (s .args .out .now) (r .last .1 .0) (r .result) (r .ensures .1 .1) size (r .ensures .0) (r .ensures .1 .0) (omega arith) in
-    (rw (told .0, told .1) at (c .refusal-text .ensures .0), omega (arith, c .refusal-text .ensures .1, size, c .refusal-text .kept .0, ap length (told .1)))
+    (subst (λ (t : List ℕ). Written 0 t (s .args .out .now) (c .refusal-text .last .0) (c .refusal-text .result)) (told .0) (subst (λ (old : List ℕ). Written 0 (refusedText (r .result .refusal) (r .result .line)) old (c .refusal-text .last .0) (c .refusal-text .result)) (told .1) (c .refusal-text .ensures .0)), omega (arith, c .refusal-text .ensures .1, size, c .refusal-text .kept .0, ap length (told .1)))
 
 pub print-spec : {M : Type 1} → statement M
 print-spec = tie.close (tie.spec answered-requires returns refusal-text-requires returns-2)
