@@ -1,0 +1,3 @@
+pub mod Off
+pub mod Distance
+pub mod Worked

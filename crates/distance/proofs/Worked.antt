@@ -1,0 +1,30 @@
+-- Demand 3 of document 01's worked firing, against the cut-down terms and against one unit more: what the theorem asks of a text can be had.
+-- Assumes nothing.
+use Prim.Native.Nat.{ℕ}
+use mathlib.Core.Path.{_≡_, refl}
+use mathlib.Core.List.{List}
+use Rattle.text.specs.Number.{digitsRead, unsigned, numberWithin}
+use Rattle.text.specs.Decimal.{digitsIn, digits, decimal}
+use Rattle.text.specs.Scanning.{upTo, begins}
+use Rattle.lines.specs.Schema.{joined, bodyText, lineText, pieces, numbersOf, formedBy, outsideOf, judge}
+use Rattle.lines.specs.Reader.{rowsText, sheetText, textOf, readLine, readRows, readParts, Good, readOf}
+use Rattle.lines.specs.Document01.{below01, document01}
+use Rattle.lines.specs.Rules.{Every}
+use Rattle.lines.specs.Rows.{sheetOf}
+use Rattle.formulas.specs.Marked.{worked}
+use Rattle.formulas.specs.Report.{lines}
+use Rattle.distance.specs.Demand.{cutDown, oneMore, Choice, Near}
+use Rattle.distance.proofs.Distance.{demand3}
+
+abbrev text : List ℕ
+text = textOf document01 (sheetOf worked)
+
+read : readOf document01 text ≡ Good (sheetOf worked)
+unfolding below01 readOf readParts readRows readLine judge formedBy upTo begins pieces numbersOf numberWithin unsigned digitsRead outsideOf textOf sheetText rowsText lineText bodyText joined decimal digits digitsIn
+read = refl
+
+below : Every (Near worked (λ w. cutDown)) lines
+below = demand3 .near text (sheetOf worked) read (λ w. cutDown)
+
+above : Every (Near worked (λ w. oneMore)) lines
+above = demand3 .near text (sheetOf worked) read (λ w. oneMore)
