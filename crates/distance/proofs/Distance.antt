@@ -1,56 +1,44 @@
--- Demand 3: each heat is off by what its roundings leave, line by line as the formulas are built, and printing adds half a unit.
--- Assumes nothing.
+-- Demand 3: the proof of a heat follows its formula, and how far the heat is off is computed along the way. What is allowed is asked once, line
+-- by line, at the end; the nearest to it is x11, 323.5 J of 350. Assumes nothing.
 use Prim.Native.Nat.{ℕ, zero, suc, _+_, _*_, _/_, _^_, _-_, _≤_, _<_}
-use mathlib.Core.Path.{_≡_, refl, sym, ap, subst}
+use mathlib.Core.Path.{_≡_, refl, ap, subst}
 use mathlib.Core.Bool.{Bool, true, false, cond}
 use mathlib.Core.List.{List, [], _∷_, map}
-use native.Mathlib.Nat.{le-trans, le-refl, mul-le-mul, mul-le-mul-left, mul-le-mul-right, mul-pos}
+use native.Mathlib.Nat.{le-trans, mul-le-mul, mul-le-mul-left, mul-le-mul-right}
 use native.Mathlib.Omega.{arith}
 use lib.Dec.{T, leb, leb→le, lit<, lit≤}
 use lib.IntN.{ℤ, pos, natAbs, _+ℤ_, _-ℤ_, _*ℤ_}
 use lib.ListN.{getD}
 use lib.Signed.{_≤ℤ_, ≤ℤ-refl, leZ-yes}
+use Rattle.arith.specs.Nearest.{nearest}
 use Rattle.arith.specs.Root.{root}
 use Rattle.arith.proofs.Order.{arithℤ, ≤ℤ-trans, nonneg-mul, abs-is, abs-mul}
 use Rattle.arith.proofs.Machine.{range, arg, _⟨-⟩_, bound}
 use Rattle.arith.proofs.RootLaws.{root-is}
-use Rattle.sheet.specs.Firing.{Stuff, Stage, Section, Wall, Firing}
+use Rattle.sheet.specs.Firing.{Stage, Section, Firing}
 use Rattle.sheet.specs.Shown.{same as alike}
-use Rattle.lines.specs.Quantities.{gasTotal}
+use Rattle.lines.specs.Quantities.{product, ambient, heating, flue, monoxide, gasTotal}
 use Rattle.lines.specs.Document01.{sumOf}
 use Rattle.lines.specs.Rules.{Every}
-use Rattle.lines.specs.Limits.{In, StageIn, SectionIn, Limits}
 use Rattle.lines.specs.Rows.{firingOf}
+use Rattle.lines.specs.Limits.{In, StageIn, SectionIn, Limits}
 use Rattle.lines.proofs.Limits.{limits}
 use Rattle.lines.proofs.Document01.{firing-kept}
-use Rattle.formulas.specs.Rounding.{Rounding, square, paper}
-use Rattle.formulas.specs.Formulas.{joule, sum, totalGas, noSection, noStage, numbered, placed, sectionOf, stageOf, sensible, dryFlue, vapourRate, vapour, dryHeat, vapourHeat, flueHeat, monoxideHeat, convection, radiation, flux, wallHeat, q1, q2, q3, q5, q8, income, x1, x2, x3, x5, x7, x8, x9, x10, spent, x11, waterHeat, useful, withset}
-use Rattle.formulas.specs.Report.{Figure, number, heat, share, lines, printed}
-use Rattle.distance.specs.Demand.{Stand, cutDown, oneMore, standIn, Choice, against, surface, thousand, leeway, Near, Enclosed, Demand3}
-use Rattle.distance.proofs.Off.{Off, Size, same, weaken, within, beside, plus, minus, times, by, rounded, summed, records}
+use Rattle.formulas.specs.Rounding.{Rounding, paper}
+use Rattle.formulas.specs.Formulas.{joule, sum, sensible, totalGas, q1, q2, q3, q5, q8, income, x1, x2, x3, x5, x10, dryFlue, vapourRate, vapour, dryHeat, vapourHeat, flueHeat, monoxideHeat, x7, x8, noStage, numbered, sectionOf, stageOf, convection, radiation, flux, wallHeat, x9, spent, x11, waterHeat, useful, withset}
+use Rattle.formulas.specs.Report.{number, heat, share, lines, printed}
+use Rattle.distance.specs.Demand.{Stand, cutDown, oneMore, standIn, Enclosed, Choice, against, surface, thousand, allowed, leeway, Within, Near, Demand3}
+use Rattle.distance.proofs.Off.{Off, Size, same, one-more, _⊞_, _⊟_, _⊠_, times, per, per-both, rounded, settled, summed, records}
 
--- ---- how far each heat is off, in thousandths of a joule
-abbrev milli : ℕ → ℕ
-milli n = n * (joule / 1000)
+-- ---- THE STAND-INS: their squares enclose the exact one, and each is at most one unit from the cut-down term
+enclosed : (n : ℕ) → Enclosed n
+enclosed n = let r = root-is n in record { low = r .below; high = omega (arith, r .above) }
 
--- the vapour's rate, 0.5e-9 kg/m³, on 0.1 m³ of gas at 1,220.0 °C
-abbrev seep : ℕ
-seep = 28 * 10 ^ 7 * 193 * 12200 * (joule / (56 * 10 ^ 17))
+stand-off : {w : ℕ} (c : Stand) (n : ℕ) → Off w 1 0 (pos (root n)) (pos (standIn c n))
+stand-off {w} cutDown n = record { off = omega (arith, same {w = w} {x = pos (root n)} .off) }
+stand-off oneMore n = one-more
 
--- 1.5e-5 W/m² on 0.01 m² for a minute
-abbrev leak : ℕ
-leak = 15 * 10 ^ 8 * (60 * (joule / 10 ^ 16))
-
--- one line, and those below it
-infixr 5 _&_
-abbrev _&_ : {A B : Type 0} → A → B → A × B
-_&_ a b = (a, b)
-
--- from joules to print: with a heat off by e, and n the printed figure's error
-printing : (n e P j S U : ℕ) → 1000 ≤ P → 10 * thousand * U ≤ 1000 * j → e ≤ 350 * j + U * S → n ≤ e * 10 + j * P / 2 → thousand * n ≤ (4 * thousand + S) * (j * P)
-printing n e P j S U p u k a = omega (arith, mul-le-mul-right j p, mul-le-mul-left S (mul-le-mul-right j p), mul-le-mul-left S u)
-
--- ---- the gas of all stages, and the surface of a reading
+-- ---- THE LIMITS, as the formulas meet them. The gas of all stages
 sum-of : {A : Type 0} (g : A → ℤ) (l : List A) → sumOf (map g l) ≡ sum g l
 unfolding sum
 sum-of g [] = refl
@@ -59,202 +47,212 @@ sum-of g (a ∷ l) = ap (λ (z : ℤ). g a +ℤ z) (sum-of g l)
 gas-in : {f : Firing} → Limits f → In gasTotal (totalGas (f .stages))
 gas-in {f} h = subst (In gasTotal) (sum-of (λ s. s .gas) (f .stages)) (h .total)
 
--- what is found in a list of records within their limits, or nothing
-found : (n : ℤ) (l : List Section) → Every SectionIn l → pos 0 ≤ℤ numbered n l .area
+-- a reading's area and minutes, found or not
+area-least : (n : ℤ) (l : List Section) → Every SectionIn l → pos 0 ≤ℤ numbered n l .area
 unfolding numbered
-found n [] c = ≤ℤ-refl (pos 0)
-found n (x ∷ l) c = here (alike n (x .number)) (found n l (c .1))
+area-least n [] c = ≤ℤ-refl (pos 0)
+area-least n (x ∷ l) c = here (alike n (x .number)) (area-least n l (c .1))
   where
     here : (t : Bool) → pos 0 ≤ℤ numbered n l .area → pos 0 ≤ℤ cond t x (numbered n l) .area
     here true r = ≤ℤ-trans (leZ-yes tt) (c .0 .area .low)
     here false r = r
 
-timed : (i : ℕ) (l : List Stage) → Every StageIn l → pos 0 ≤ℤ getD l i noStage .minutes
-timed i [] c = ≤ℤ-refl (pos 0)
-timed zero (s ∷ l) c = ≤ℤ-trans (leZ-yes tt) (c .0 .minutes .low)
-timed (suc i) (s ∷ l) c = timed i l (c .1)
+minutes-least : (i : ℕ) (l : List Stage) → Every StageIn l → pos 0 ≤ℤ getD l i noStage .minutes
+minutes-least i [] c = ≤ℤ-refl (pos 0)
+minutes-least zero (s ∷ l) c = ≤ℤ-trans (leZ-yes tt) (c .0 .minutes .low)
+minutes-least (suc i) (s ∷ l) c = minutes-least i l (c .1)
 
--- a stand-in is at most one unit from the cut-down term
-stand-off : (c : Stand) (n : ℕ) → Off 1 (pos (root n)) (pos (standIn c n))
-stand-off cutDown n = within same tt
-stand-off oneMore n = beside (pos 1)
+-- ---- PRINTING. A figure is c times a heat over D, and D is at least D₀. With the half that printing adds, what the heat is off by has to be
+-- within what is allowed, A; and what it is off by for each unit of surface, within the leeway, L
+abbrev allows : ℕ → ℕ → ℕ → ℕ → Bool
+allows c D₀ A flat = leb (2 * c * flat + D₀) (2 * A * D₀)
+
+abbrev spares : ℕ → ℕ → ℕ → ℕ → Bool
+spares c D₀ L rate = leb (c * thousand * rate) (L * D₀)
+
+printing : {w flat rate D₀ D : ℕ} {x y : ℤ} (c A L : ℕ) → Off w flat rate x y → 0 < D → D₀ ≤ D → 1 ≤ A → T (allows c D₀ A flat) → T (spares c D₀ L rate) → Within (A * thousand + L * w) thousand (nearest (x *ℤ pos c) D) (record { over = y *ℤ pos c; under = D })
+printing {w} {flat} {rate} {D₀} {D} c A L p some more one t u =
+    let d = D - D₀ in
+    let e : D ≡ D₀ + d = omega arith in
+    let a = leb→le (2 * c * flat + D₀) (2 * A * D₀) t in
+    let b = leb→le (c * thousand * rate) (L * D₀) u in
+    omega (arith, a, mul-le-mul-left w b, mul-le-mul-right d one, ap (λ (i : ℕ). A * i) e, ap (λ (i : ℕ). L * w * i) e, rounded some (p ⊠ pos c) .off)
+
+-- one line, and those below it
+infixr 5 _&_
+abbrev _&_ : {A B : Type 0} → A → B → A × B
+_&_ a b = (a, b)
 
 module _ (f : Firing) (h : Limits f) (choice : Choice) where
-  abbrev Apart : ℕ → (Firing → Rounding → ℤ) → Type 0
-  Apart e q = Off e (q f paper) (q f (against choice))
+  -- how far a heat is off: so much in any case, and so much for each 0.01 m²·minute of surface
+  record Bound (q : Firing → Rounding → ℤ) : Type 0 where
+    flat : ℕ
+    rate : ℕ
+    off : Off (surface f) flat rate (q f paper) (q f (against choice))
 
-  -- income
-  sensible-off : (m : ℤ) (x : Stuff) (T T₀ : ℤ) → Off (milli 500) (sensible paper m x T T₀) (sensible (against choice) m x T T₀)
-  unfolding sensible
-  sensible-off m x T T₀ = rounded (lit< tt) same
+  abbrev known : {q : Firing → Rounding → ℤ} {a b : ℕ} → Off (surface f) a b (q f paper) (q f (against choice)) → Bound q
+  known {a = a} {b = b} p = record { flat = a; rate = b; off = p }
 
-  q1-off : Apart 0 q1
+  -- ---- Income
+  q1-off : Bound q1
   unfolding q1
-  q1-off = same
+  q1-off = known same
 
-  q2-off : Apart (milli 500) q2
+  q2-off : Bound q2
   unfolding q2
-  q2-off = rounded (lit< tt) same
+  q2-off = known (rounded (lit< tt) same)
 
-  q3-off : Apart (milli 16000) q3
-  unfolding q3
-  q3-off = records (f .setters) (λ x c. sensible-off (x .mass) (x .stuff) (x .entry) (f .ambient)) (h .setters) (h .settersMost)
+  q3-off : Bound q3
+  unfolding q3 sensible
+  q3-off = known (records (f .setters) (h .setters) (h .settersMost) (λ x c. rounded (lit< tt) same))
 
-  q5-off : Apart (milli 500) q5
-  unfolding q5
-  q5-off = sensible-off (f .ware .green) (f .ware .stuff) (f .ware .entry) (f .ambient)
+  q5-off : Bound q5
+  unfolding q5 sensible
+  q5-off = known (rounded (lit< tt) same)
 
-  q8-off : Apart (milli 16000) q8
-  unfolding q8
-  q8-off = records (f .parts) (λ x c. sensible-off (x .mass) (x .stuff) (x .before) (f .ambient)) (h .parts) (h .partsMost)
+  q8-off : Bound q8
+  unfolding q8 sensible
+  q8-off = known (records (f .parts) (h .parts) (h .partsMost) (λ x c. rounded (lit< tt) same))
 
-  income-off : Apart (milli 33000) income
+  income-off : Bound income
   unfolding income
-  income-off = plus (plus (plus (plus q1-off q2-off) q3-off) q5-off) q8-off
+  income-off = known (q1-off .off ⊞ q2-off .off ⊞ q3-off .off ⊞ q5-off .off ⊞ q8-off .off)
 
-  -- expenditure
-  x1-off : Apart (milli 500) x1
-  unfolding x1
-  x1-off = sensible-off (f .product) (f .ware .stuff) (f .ware .highest) (f .ware .entry)
+  -- ---- Expenditure
+  x1-off : Bound x1
+  unfolding x1 sensible
+  x1-off = known (rounded (lit< tt) same)
 
-  x2-off : Apart (milli 500) x2
+  x2-off : Bound x2
   unfolding x2
-  x2-off = rounded (lit< tt) same
+  x2-off = known (rounded (lit< tt) same)
 
-  x3-off : Apart 0 x3
+  x3-off : Bound x3
   unfolding x3
-  x3-off = same
+  x3-off = known same
 
-  x5-off : Apart (milli 16000) x5
-  unfolding x5
-  x5-off = records (f .setters) (λ x c. sensible-off (x .mass) (x .stuff) (f .ware .highest) (x .entry)) (h .setters) (h .settersMost)
+  x5-off : Bound x5
+  unfolding x5 sensible
+  x5-off = known (records (f .setters) (h .setters) (h .settersMost) (λ x c. rounded (lit< tt) same))
 
-  x10-off : Apart (milli 16000) x10
-  unfolding x10
-  x10-off = records (f .parts) (λ x c. sensible-off (x .mass) (x .stuff) (x .firing) (f .ambient)) (h .parts) (h .partsMost)
+  x10-off : Bound x10
+  unfolding x10 sensible
+  x10-off = known (records (f .parts) (h .parts) (h .partsMost) (λ x c. rounded (lit< tt) same))
 
-  -- flue
-  warmth : (s : Stage) → StageIn s → Size 12200 (s .flue -ℤ f .ambient)
+  -- ---- Flue. The rounded rate of vapour counts by the gas that it is for, so over all stages by refusal 10's greatest: by each stage's
+  -- greatest, twelve times that, x11 would not be near
+  warmth : (s : Stage) → StageIn s → Size (natAbs (flue .greatest -ℤ ambient .least)) (s .flue -ℤ f .ambient)
   warmth s c = record { size = bound (range (c .flue .low) (c .flue .high) ∷ range (h .ambient .low) (h .ambient .high) ∷ []) (arg 0 ⟨-⟩ arg 1) tt }
 
-  dryFlue-off : (s : Stage) → Off 50000 (dryFlue paper (f .gas) s) (dryFlue (against choice) (f .gas) s)
-  unfolding dryFlue
-  dryFlue-off s = rounded (lit< tt) same
+  gas-most : natAbs (totalGas (f .stages)) ≤ natAbs (gasTotal .greatest)
+  gas-most = bound (range (gas-in h .low) (gas-in h .high) ∷ []) (arg 0) tt
 
-  vapour-off : (s : Stage) → Off (28 * 10 ^ 7 * natAbs (s .gas) + 28 * 10 ^ 11) (vapour paper (f .gas) (f .moisture) s) (vapour (against choice) (f .gas) (f .moisture) s)
-  unfolding vapourRate vapour
-  vapour-off s = rounded (lit< tt) (by (rounded (lit< tt) same) (s .gas))
-
-  flueHeat-off : (s : Stage) → StageIn s → Off (seep * natAbs (s .gas) + milli 10621) (flueHeat paper (f .gas) (f .moisture) (f .ambient) s) (flueHeat (against choice) (f .gas) (f .moisture) (f .ambient) s)
-  unfolding dryHeat vapourHeat flueHeat
-  flueHeat-off s c =
-      let dry = rounded (lit< tt) (by (times (by (dryFlue-off s) (pos 1384)) (warmth s c)) (pos (joule / 10 ^ 11))) in
-      let wet = rounded (lit< tt) (by (times (by (vapour-off s) (pos 193)) (warmth s c)) (pos (joule / (56 * 10 ^ 17)))) in
-      weaken (plus dry wet) (omega arith)
-
-  x7-off : Apart (milli 151000) x7
-  unfolding x7
+  x7-off : Bound x7
+  unfolding x7 flueHeat dryHeat vapourHeat dryFlue vapour vapourRate
   x7-off =
-      let most : natAbs (totalGas (f .stages)) ≤ 200000 = bound (range (gas-in h .low) (gas-in h .high) ∷ []) (arg 0) tt in
-      weaken (summed (λ s. s .gas) (λ s c. c .gas .low) seep (milli 10621) flueHeat-off (f .stages) (h .stages)) (omega (arith, most, h .stagesMost))
+      known
+      (settled
+      (summed (λ s. s .gas) (λ s c. c .gas .low) (f .stages) (h .stages) (h .stagesMost) (λ s c.
+      rounded (lit< tt) (times (rounded (lit< tt) same ⊠ pos 1384) (warmth s c) ⊠ pos (joule / 10 ^ 11))
+      ⊞ rounded (lit< tt) (times (rounded (lit< tt) (per (s .gas) (rounded (lit< tt) same)) ⊠ pos 193) (warmth s c) ⊠ pos (joule / (56 * 10 ^ 17)))))
+      gas-most)
 
-  monoxideHeat-off : (s : Stage) → StageIn s → Off (milli 6875) (monoxideHeat paper (f .gas) s) (monoxideHeat (against choice) (f .gas) s)
-  unfolding monoxideHeat
-  monoxideHeat-off s c =
-      let co : Size 1000 (s .co) = record { size = bound (range (c .co .low) (c .co .high) ∷ []) (arg 0) tt } in
-      within (rounded (lit< tt) (by (by (times (dryFlue-off s) co) (pos 12750)) (pos (joule / 10 ^ 11)))) tt
+  monoxide-size : (s : Stage) → StageIn s → Size (natAbs (monoxide .greatest)) (s .co)
+  monoxide-size s c = record { size = bound (range (c .co .low) (c .co .high) ∷ []) (arg 0) tt }
 
-  x8-off : Apart (milli 82500) x8
-  unfolding x8
-  x8-off = records (f .stages) monoxideHeat-off (h .stages) (h .stagesMost)
+  x8-off : Bound x8
+  unfolding x8 monoxideHeat dryFlue
+  x8-off =
+      known
+      (records (f .stages) (h .stages) (h .stagesMost) (λ s c.
+      rounded (lit< tt) (times (rounded (lit< tt) same) (monoxide-size s c) ⊠ pos 12750 ⊠ pos (joule / 10 ^ 11))))
 
-  -- surface
-  convection-off : (x : Section) (w : Wall) → Off (10 ^ 9) (convection paper x w) (convection (against choice) x w)
-  unfolding convection
-  convection-off x w = by (stand-off (choice w) (square (placed (natAbs (x .place))) (natAbs (w .surface -ℤ w .air)))) (pos (10 ^ 9))
-
-  flux-off : (x : Section) (w : Wall) → Off (15 * 10 ^ 8) (flux paper x w) (flux (against choice) x w)
-  unfolding radiation flux
-  flux-off x w = plus (convection-off x w) (rounded (lit< tt) same)
-
-  wallHeat-off : (x : Section) (s : Stage) (w : Wall) → Off (leak * natAbs (x .area *ℤ s .minutes) + milli 500) (wallHeat paper x s w) (wallHeat (against choice) x s w)
-  unfolding wallHeat
-  wallHeat-off x s w = weaken (rounded (lit< tt) (by (by (by (by (flux-off x w) (x .area)) (s .minutes)) (pos 60)) (pos (joule / 10 ^ 16)))) (omega (arith, abs-mul (x .area) (s .minutes)))
-
-  x9-off : Apart (milli 24000 + leak * surface f) x9
-  unfolding x9
+  -- ---- Surface
+  x9-off : Bound x9
+  unfolding x9 wallHeat flux convection radiation
   x9-off =
-      weaken
-      (summed (λ w. sectionOf f w .area *ℤ stageOf f w .minutes) (λ w c. nonneg-mul (found (w .section) (f .sections) (h .sections)) (timed (natAbs (w .stage) - 1) (f .stages) (h .stages)))
-      leak (milli 500) (λ w c. wallHeat-off (sectionOf f w) (stageOf f w) w) (f .walls) (h .walls))
-      (omega (arith, h .wallsMost))
+      known
+      (summed (λ w. sectionOf f w .area *ℤ stageOf f w .minutes)
+      (λ w c. nonneg-mul (area-least (w .section) (f .sections) (h .sections)) (minutes-least (natAbs (w .stage) - 1) (f .stages) (h .stages)))
+      (f .walls) (h .walls) (h .wallsMost) (λ w c.
+      rounded (lit< tt) (per-both (sectionOf f w .area) (stageOf f w .minutes) (stand-off (choice w) _ ⊠ pos (10 ^ 9) ⊞ rounded (lit< tt) same) ⊠ pos 60 ⊠ pos (joule / 10 ^ 16))))
 
-  -- the rest
-  spent-off : Apart (milli 290500 + leak * surface f) spent
+  -- ---- Rest
+  spent-off : Bound spent
   unfolding spent
-  spent-off = weaken (plus (plus (plus (plus (plus (plus (plus x1-off x2-off) x3-off) x5-off) x7-off) x8-off) x9-off) x10-off) (omega arith)
+  spent-off = known (x1-off .off ⊞ x2-off .off ⊞ x3-off .off ⊞ x5-off .off ⊞ x7-off .off ⊞ x8-off .off ⊞ x9-off .off ⊞ x10-off .off)
 
-  x11-off : Apart (milli 323500 + leak * surface f) x11
+  x11-off : Bound x11
   unfolding x11
-  x11-off = weaken (minus income-off spent-off) (omega arith)
+  x11-off = known (income-off .off ⊟ spent-off .off)
 
-  useful-off : Apart (milli 1000) useful
-  unfolding waterHeat useful
-  useful-off = plus (plus (rounded (lit< tt) same) x3-off) x1-off
+  useful-off : Bound useful
+  unfolding useful waterHeat
+  useful-off = known (rounded (lit< tt) same ⊞ x3-off .off ⊞ x1-off .off)
 
-  withset-off : Apart (milli 17000) withset
+  withset-off : Bound withset
   unfolding withset
-  withset-off = plus useful-off x5-off
+  withset-off = known (useful-off .off ⊞ x5-off .off)
 
-  -- printed: the firing number, a heat per tonne, an efficiency
+  -- ---- Printed: the firing number, a heat per tonne, a heat over q1
   as-it-stands : {key : List ℕ} → Near f choice (record { key = key; figure = number })
   unfolding printed
-  as-it-stands = record { some = lit< tt; near = omega (arith, rounded {k = 1} {x = f .number} (lit< tt) same .off) }
+  as-it-stands = record { is-fraction = lit< tt; near = omega (arith, rounded {w = 0} {k = 1} {x = f .number} (lit< tt) same .off) }
 
-  tonnes : 1000 ≤ natAbs (f .product)
-  tonnes = let low = h .product .low in omega (arithℤ, abs-is (f .product))
+  abbrev leastProduct : ℕ
+  leastProduct = joule * natAbs (product .least)
 
-  per-tonne : {key : List ℕ} {q : Firing → Rounding → ℤ} {e : ℕ} → Apart e q → e ≤ 350 * joule + leak * (leeway key * surface f) → Near f choice (record { key = key; figure = heat q })
+  per-tonne : {key : List ℕ} {q : Firing → Rounding → ℤ} (p : Bound q) → T (allows 10 leastProduct (allowed (heat q)) (p .flat)) → T (spares 10 leastProduct (leeway key) (p .rate)) → Near f choice (record { key = key; figure = heat q })
   unfolding printed
-  per-tonne {key} {q} {e} p k =
-      let some : 0 < joule * natAbs (f .product) = mul-pos (lit< tt) (le-trans (lit≤ tt) tonnes) in
-      record { some = some; near = printing _ e (natAbs (f .product)) joule (leeway key * surface f) leak tonnes (lit≤ tt) k (rounded some (by p (pos 10)) .off) }
+  per-tonne {key} {q} p t u =
+      let ware : natAbs (product .least) ≤ natAbs (f .product) = let low = h .product .low in omega (arithℤ, abs-is (f .product)) in
+      let more : leastProduct ≤ joule * natAbs (f .product) = mul-le-mul-left joule ware in
+      let some = le-trans (lit< tt) more in
+      record { is-fraction = some; near = printing 10 (allowed (heat q)) (leeway key) (p .off) some more (lit≤ tt) t u }
 
-  -- a heat with no leeway, and one with it
-  plain : {key : List ℕ} {q : Firing → Rounding → ℤ} {e : ℕ} → Apart e q → T (leb e (350 * joule)) → Near f choice (record { key = key; figure = heat q })
-  plain {key} {q} {e} p t = per-tonne p (le-trans (leb→le e (350 * joule) t) (omega arith))
+  abbrev leastFuel : ℕ
+  leastFuel = natAbs (gasTotal .least) * natAbs (heating .least) * 100 * joule
 
-  walled : {key : List ℕ} {q : Firing → Rounding → ℤ} → Apart (350 * joule + leak * surface f) q → T (leb 1 (leeway key)) → Near f choice (record { key = key; figure = heat q })
-  walled {key} p t = per-tonne p (omega (arith, mul-le-mul-right (surface f) (leb→le 1 (leeway key) t)))
-
-  -- the fuel's heat is at least 30,000 kJ
-  fuel : 30000000 * joule ≤ natAbs (q1 f (against choice))
+  fuel-least : leastFuel ≤ natAbs (q1 f (against choice))
   unfolding q1
-  fuel =
+  fuel-least =
       let G = totalGas (f .stages) in
       let H = f .fuel .heating in
-      let gas : 100 ≤ natAbs G = let low = gas-in h .low in omega (arithℤ, abs-is G) in
-      let heating : 3000 ≤ natAbs H = let low = h .heating .low in omega (arithℤ, abs-is H) in
-      rw (abs-mul (G *ℤ H *ℤ pos 100) (pos joule), abs-mul (G *ℤ H) (pos 100), abs-mul G H) (omega (arith, mul-le-mul gas heating))
+      let gas : natAbs (gasTotal .least) ≤ natAbs G = let low = gas-in h .low in omega (arithℤ, abs-is G) in
+      let heat : natAbs (heating .least) ≤ natAbs H = let low = h .heating .low in omega (arithℤ, abs-is H) in
+      rw (abs-mul (G *ℤ H *ℤ pos 100) (pos joule), abs-mul (G *ℤ H) (pos 100), abs-mul G H) (omega (arith, mul-le-mul gas heat))
 
-  over-fuel : {key : List ℕ} {q : Firing → Rounding → ℤ} {e : ℕ} → Apart e q → T (leb e (milli 17000)) → Near f choice (record { key = key; figure = share q })
+  over-fuel : {key : List ℕ} {q : Firing → Rounding → ℤ} (p : Bound q) → T (allows 10000 leastFuel (allowed (share q)) (p .flat)) → T (spares 10000 leastFuel (leeway key) (p .rate)) → Near f choice (record { key = key; figure = share q })
   unfolding printed q1
-  over-fuel {key} {q} {e} p t =
-      let some : 0 < natAbs (q1 f (against choice)) = le-trans (lit< tt) fuel in
-      record { some = some; near = omega (arith, leb→le e (milli 17000) t, fuel, rounded some (by p (pos 10000)) .off) }
+  over-fuel {key} {q} p t u =
+      let some = le-trans (lit< tt) fuel-least in
+      record { is-fraction = some; near = printing 10000 (allowed (share q)) (leeway key) (p .off) some fuel-least (lit≤ tt) t u }
 
+  -- every line: each `tt` is a test of what is allowed to it, and of its leeway
   near : Every (Near f choice) lines
-  unfolding lines
+  unfolding lines q1-off q2-off q3-off q5-off q8-off income-off x1-off x2-off x3-off x5-off x7-off x8-off x9-off x10-off spent-off x11-off useful-off withset-off
   near =
       as-it-stands
-      & plain q1-off tt & plain q2-off tt & plain q3-off tt & plain q5-off tt & plain q8-off tt & plain income-off tt
-      & plain x1-off tt & plain x2-off tt & plain x3-off tt & plain x5-off tt & plain x7-off tt & plain x8-off tt
-      & walled (weaken x9-off (omega arith)) tt & plain x10-off tt & walled (weaken x11-off (omega arith)) tt
-      & plain useful-off tt & plain withset-off tt & over-fuel useful-off tt & over-fuel withset-off tt & tt
-
--- the stand-ins' squares enclose the exact one
-enclosed : (n : ℕ) → Enclosed n
-enclosed n = let r = root-is n in record { low = r .below; high = omega (arith, r .above) }
+      & per-tonne q1-off tt tt
+      & per-tonne q2-off tt tt
+      & per-tonne q3-off tt tt
+      & per-tonne q5-off tt tt
+      & per-tonne q8-off tt tt
+      & per-tonne income-off tt tt
+      & per-tonne x1-off tt tt
+      & per-tonne x2-off tt tt
+      & per-tonne x3-off tt tt
+      & per-tonne x5-off tt tt
+      & per-tonne x7-off tt tt
+      & per-tonne x8-off tt tt
+      & per-tonne x9-off tt tt
+      & per-tonne x10-off tt tt
+      & per-tonne x11-off tt tt
+      & per-tonne useful-off tt tt
+      & per-tonne withset-off tt tt
+      & over-fuel useful-off tt tt
+      & over-fuel withset-off tt tt
+      & tt
 
 -- THE THEOREM
 pub demand3 : Demand3

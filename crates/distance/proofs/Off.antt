@@ -3,60 +3,88 @@
 use Prim.Native.Nat.{ℕ, _+_, _*_, _/_, _≤_, _<_}
 use mathlib.Core.Path.{_≡_, refl, ap, subst}
 use mathlib.Core.List.{List, [], _∷_}
-use native.Mathlib.Nat.{le-trans, le-refl, le-of-eq, mul-le-mul-left}
+use native.Mathlib.Nat.{le-refl, mul-le-mul-left}
 use native.Mathlib.Omega.{arith}
-use lib.Dec.{T, leb, leb→le}
 use lib.IntN.{ℤ, pos, negsuc, natAbs, _+ℤ_, _-ℤ_, _*ℤ_}
 use lib.ListN.{length}
 use lib.Signed.{_≤ℤ_, ≤ℤ-refl}
 use Rattle.arith.specs.Nearest.{nearest}
 use Rattle.arith.proofs.Ring.{v, #, _⊕_, _⊖_, _⊗_, ⊝, ring}
-use Rattle.arith.proofs.Order.{abs-neg, bound-add, bound-sub, bound-mul, +ℤ-mono}
+use Rattle.arith.proofs.Order.{bound-add, bound-sub, bound-mul, +ℤ-mono}
 use Rattle.arith.proofs.NearestLaws.{nearest-error}
 use Rattle.lines.specs.Rules.{Every}
 use Rattle.formulas.specs.Formulas.{sum}
 
--- |x − y| ≤ e
-pub record Off (e : ℕ) (x y : ℤ) : Type 0 where
-  pub off : natAbs (x -ℤ y) ≤ e
+-- |x − y| ≤ flat + rate · w: so much in any case, and so much for each unit of a weight w, be it gas or surface
+pub record Off (w flat rate : ℕ) (x y : ℤ) : Type 0 where
+  pub off : natAbs (x -ℤ y) ≤ flat + rate * w
 
-pub same : {x : ℤ} → Off 0 x x
-same {x} = record { off = subst (λ (z : ℤ). natAbs z ≤ 0) (ring (x ∷ []) (# 0) (v 0 ⊖ v 0) tt) (le-refl 0) }
+pub same : {w : ℕ} {x : ℤ} → Off w 0 0 x x
+same {w} {x} = record { off = subst (λ (i : ℤ). natAbs i ≤ 0 + 0 * w) (ring (x ∷ []) (# 0) (v 0 ⊖ v 0) tt) (omega arith) }
 
-pub beside : {x : ℤ} (d : ℤ) → Off (natAbs d) x (x +ℤ d)
-beside {x} d = record { off = subst (λ (z : ℤ). natAbs z ≤ natAbs d) (ring (x ∷ d ∷ []) (⊝ (v 1)) (v 0 ⊖ (v 0 ⊕ v 1)) tt) (le-of-eq (abs-neg d)) }
+pub one-more : {w n : ℕ} → Off w 1 0 (pos n) (pos (n + 1))
+one-more {w} {n} = record { off = subst (λ (i : ℤ). natAbs i ≤ 1 + 0 * w) (ring (pos n ∷ []) (⊝ (# 1)) (v 0 ⊖ (v 0 ⊕ # 1)) tt) (omega arith) }
 
-pub weaken : {d e : ℕ} {x y : ℤ} → Off d x y → d ≤ e → Off e x y
-weaken p h = record { off = le-trans (p .off) h }
+-- ---- sums, differences and products
+module _ {d e : ℕ} (x y z t : ℤ) (h : natAbs (x -ℤ y) ≤ d) (k : natAbs (z -ℤ t) ≤ e) where
+  apart-sum : natAbs (x +ℤ z -ℤ (y +ℤ t)) ≤ d + e
+  apart-sum =
+      subst (λ (i : ℤ). natAbs i ≤ d + e) (ring (x ∷ y ∷ z ∷ t ∷ []) (v 0 ⊖ v 1 ⊕ (v 2 ⊖ v 3)) (v 0 ⊕ v 2 ⊖ (v 1 ⊕ v 3)) tt)
+      (bound-add (x -ℤ y) (z -ℤ t) h k)
 
--- with numerals for the bounds
-pub within : {d e : ℕ} {x y : ℤ} → Off d x y → T (leb d e) → Off e x y
-within {d} {e} p t = weaken p (leb→le d e t)
+  apart-difference : natAbs (x -ℤ z -ℤ (y -ℤ t)) ≤ d + e
+  apart-difference =
+      subst (λ (i : ℤ). natAbs i ≤ d + e) (ring (x ∷ y ∷ z ∷ t ∷ []) (v 0 ⊖ v 1 ⊖ (v 2 ⊖ v 3)) (v 0 ⊖ v 2 ⊖ (v 1 ⊖ v 3)) tt)
+      (bound-sub (x -ℤ y) (z -ℤ t) h k)
 
-module _ {d e : ℕ} {x y u w : ℤ} (p : Off d x y) (q : Off e u w) where
-  pub plus : Off (d + e) (x +ℤ u) (y +ℤ w)
-  plus = record { off = subst (λ (z : ℤ). natAbs z ≤ d + e) (ring (x ∷ y ∷ u ∷ w ∷ []) (v 0 ⊖ v 1 ⊕ (v 2 ⊖ v 3)) (v 0 ⊕ v 2 ⊖ (v 1 ⊕ v 3)) tt) (bound-add (x -ℤ y) (u -ℤ w) (p .off) (q .off)) }
+apart-product : {d e : ℕ} (x y m : ℤ) → natAbs (x -ℤ y) ≤ d → natAbs m ≤ e → natAbs (x *ℤ m -ℤ y *ℤ m) ≤ d * e
+apart-product {d} {e} x y m h k =
+    subst (λ (i : ℤ). natAbs i ≤ d * e) (ring (x ∷ y ∷ m ∷ []) ((v 0 ⊖ v 1) ⊗ v 2) (v 0 ⊗ v 2 ⊖ v 1 ⊗ v 2) tt) (bound-mul (x -ℤ y) m h k)
 
-  pub minus : Off (d + e) (x -ℤ u) (y -ℤ w)
-  minus = record { off = subst (λ (z : ℤ). natAbs z ≤ d + e) (ring (x ∷ y ∷ u ∷ w ∷ []) (v 0 ⊖ v 1 ⊖ (v 2 ⊖ v 3)) (v 0 ⊖ v 2 ⊖ (v 1 ⊖ v 3)) tt) (bound-sub (x -ℤ y) (u -ℤ w) (p .off) (q .off)) }
+infixl 6 _⊞_
+pub _⊞_ : {w a b c d : ℕ} {x y z t : ℤ} → Off w a b x y → Off w c d z t → Off w (a + c) (b + d) (x +ℤ z) (y +ℤ t)
+_⊞_ {x = x} {y} {z} {t} p q = record { off = omega (arith, apart-sum x y z t (p .off) (q .off)) }
 
--- times a factor whose size is known
+infixl 6 _⊟_
+pub _⊟_ : {w a b c d : ℕ} {x y z t : ℤ} → Off w a b x y → Off w c d z t → Off w (a + c) (b + d) (x -ℤ z) (y -ℤ t)
+_⊟_ {x = x} {y} {z} {t} p q = record { off = omega (arith, apart-difference x y z t (p .off) (q .off)) }
+
+infixl 7 _⊠_
+pub _⊠_ : {w a b : ℕ} {x y : ℤ} → Off w a b x y → (m : ℤ) → Off w (a * natAbs m) (b * natAbs m) (x *ℤ m) (y *ℤ m)
+_⊠_ {x = x} {y} p m = record { off = omega (arith, apart-product x y m (p .off) (le-refl (natAbs m))) }
+
+-- times a factor of which only the greatest size is known
 pub record Size (most : ℕ) (m : ℤ) : Type 0 where
   pub size : natAbs m ≤ most
 
-pub times : {e most : ℕ} {x y m : ℤ} → Off e x y → Size most m → Off (e * most) (x *ℤ m) (y *ℤ m)
-times {e} {most} {x} {y} {m} p h = record { off = subst (λ (z : ℤ). natAbs z ≤ e * most) (ring (x ∷ y ∷ m ∷ []) ((v 0 ⊖ v 1) ⊗ v 2) (v 0 ⊗ v 2 ⊖ v 1 ⊗ v 2) tt) (bound-mul (x -ℤ y) m (p .off) (h .size)) }
+pub times : {w a b most : ℕ} {x y m : ℤ} → Off w a b x y → Size most m → Off w (a * most) (b * most) (x *ℤ m) (y *ℤ m)
+times {x = x} {y} {m} p h = record { off = omega (arith, apart-product x y m (p .off) (h .size)) }
 
-pub by : {e : ℕ} {x y : ℤ} → Off e x y → (m : ℤ) → Off (e * natAbs m) (x *ℤ m) (y *ℤ m)
-by p m = times p (record { size = le-refl (natAbs m) })
+-- times the weight, which may be a product
+pub per : {a : ℕ} {x y : ℤ} (m : ℤ) → Off (natAbs m) a 0 x y → Off (natAbs m) 0 a (x *ℤ m) (y *ℤ m)
+per {x = x} {y} m p = record { off = omega (arith, apart-product x y m (p .off) (le-refl (natAbs m))) }
 
--- rounded to a multiple of k, on one side only
-pub rounded : {e k : ℕ} {x y : ℤ} → 0 < k → Off e x y → Off (e + k / 2) (nearest x k *ℤ pos k) y
-rounded {e} {k} {x} {y} h p =
-    let half : natAbs (x -ℤ pos k *ℤ nearest x k) ≤ k / 2 = omega (arith, nearest-error x h) in
-    record { off = subst (λ (z : ℤ). natAbs z ≤ e + k / 2) (ring (x ∷ y ∷ pos k ∷ nearest x k ∷ []) (v 0 ⊖ v 1 ⊖ (v 0 ⊖ v 2 ⊗ v 3)) (v 3 ⊗ v 2 ⊖ v 1) tt) (bound-sub (x -ℤ y) (x -ℤ pos k *ℤ nearest x k) (p .off) half) }
+pub per-both : {a : ℕ} {x y : ℤ} (m n : ℤ) → Off (natAbs (m *ℤ n)) a 0 x y → Off (natAbs (m *ℤ n)) 0 a (x *ℤ m *ℤ n) (y *ℤ m *ℤ n)
+per-both {a} {x} {y} m n p = record {
+  off = subst (λ (i : ℤ). natAbs i ≤ 0 + a * natAbs (m *ℤ n)) (ring (x ∷ y ∷ m ∷ n ∷ []) (v 0 ⊗ (v 2 ⊗ v 3) ⊖ v 1 ⊗ (v 2 ⊗ v 3)) (v 0 ⊗ v 2 ⊗ v 3 ⊖ v 1 ⊗ v 2 ⊗ v 3) tt) (per (m *ℤ n) p .off);
+}
 
--- ---- sums over records, weighed by numbers that are not negative
+-- ---- rounded to a multiple of k, on one side only
+pub rounded : {w a b k : ℕ} {x y : ℤ} → 0 < k → Off w a b x y → Off w (a + k / 2) b (nearest x k *ℤ pos k) y
+rounded {w} {a} {b} {k} {x} {y} h p =
+    let error = bound-sub (x -ℤ y) (x -ℤ pos k *ℤ nearest x k) {B = k / 2} (p .off) (omega (arith, nearest-error x h)) in
+    record {
+      off = subst (λ (i : ℤ). natAbs i ≤ a + k / 2 + b * w) (ring (x ∷ y ∷ pos k ∷ nearest x k ∷ []) (v 0 ⊖ v 1 ⊖ (v 0 ⊖ v 2 ⊗ v 3)) (v 3 ⊗ v 2 ⊖ v 1) tt) (omega (arith, error));
+    }
+
+-- ---- a weight that is at most so much, and one that does not matter
+pub settled : {w v a b most : ℕ} {x y : ℤ} → Off w a b x y → w ≤ most → Off v (a + b * most) 0 x y
+settled {b = b} p h = record { off = omega (arith, p .off, mul-le-mul-left b h) }
+
+freed : {w v a : ℕ} {x y : ℤ} → Off w a 0 x y → Off v a 0 x y
+freed p = record { off = omega (arith, p .off) }
+
+-- ---- sums over at most n records, weighed by numbers that are not negative
 both-sizes : {x y : ℤ} → pos 0 ≤ℤ x → pos 0 ≤ℤ y → natAbs (x +ℤ y) ≡ natAbs x + natAbs y
 both-sizes {x = pos m} {y = pos n} h k = refl
 both-sizes {x = pos m} {y = negsuc n} h k = absurd (k .le)
@@ -66,16 +94,18 @@ module _ {A : Type 0} {C : A → Type 0} (w : A → ℤ) (least : (a : A) → C 
   weight : (l : List A) → Every C l → pos 0 ≤ℤ sum w l
   unfolding sum
   weight [] c = ≤ℤ-refl (pos 0)
-  weight (a ∷ l) c = +ℤ-mono {a = pos 0} {b = w a} {c = pos 0} {d = sum w l} (least a (c .0)) (weight l (c .1))
+  weight (x ∷ l) c = +ℤ-mono {a = pos 0} {b = w x} {c = pos 0} {d = sum w l} (least x (c .0)) (weight l (c .1))
 
-  -- each is off by at most E, and u for each unit of its weight
-  pub summed : {f g : A → ℤ} (u E : ℕ) → ((a : A) → C a → Off (u * natAbs (w a) + E) (f a) (g a)) → (l : List A) → Every C l → Off (u * natAbs (sum w l) + E * length l) (sum f l) (sum g l)
+  each : {f g : A → ℤ} {a b : ℕ} → ((x : A) → C x → Off (natAbs (w x)) a b (f x) (g x)) → (l : List A) → Every C l → Off (natAbs (sum w l)) (a * length l) b (sum f l) (sum g l)
   unfolding sum
-  summed u E h [] c = weaken (same {x = pos 0}) (omega arith)
-  summed u E h (a ∷ l) c =
-      let e = both-sizes (least a (c .0)) (weight l (c .1)) in
-      weaken (plus (h a (c .0)) (summed u E h l (c .1))) (omega (arith, ap (λ (t : ℕ). u * t) e))
+  each h [] c = record { off = omega arith }
+  each {f} {g} {a} {b} h (x ∷ l) c =
+      let size = ap (λ (n : ℕ). b * n) (both-sizes (least x (c .0)) (weight l (c .1))) in
+      record { off = omega (arith, size, apart-sum (f x) (g x) (sum f l) (sum g l) (h x (c .0) .off) (each h l (c .1) .off)) }
 
--- at most n records, each off by at most E
-pub records : {A : Type 0} {C : A → Type 0} {f g : A → ℤ} (l : List A) {E n : ℕ} → ((a : A) → C a → Off E (f a) (g a)) → Every C l → length l ≤ n → Off (E * n) (sum f l) (sum g l)
-records l {E} h c k = weaken (summed (λ a. pos 0) (λ a d. ≤ℤ-refl (pos 0)) 0 E (λ a d. weaken (h a d) (omega arith)) l c) (omega (arith, mul-le-mul-left E k))
+  pub summed : {f g : A → ℤ} {a b n : ℕ} (l : List A) → Every C l → length l ≤ n → ((x : A) → C x → Off (natAbs (w x)) a b (f x) (g x)) → Off (natAbs (sum w l)) (a * n) b (sum f l) (sum g l)
+  summed {a = a} l c k h = record { off = omega (arith, each h l c .off, mul-le-mul-left a k) }
+
+-- the same with no weight
+pub records : {A : Type 0} {C : A → Type 0} {f g : A → ℤ} {w a n : ℕ} (l : List A) → Every C l → length l ≤ n → ((x : A) → C x → Off w a 0 (f x) (g x)) → Off w (a * n) 0 (sum f l) (sum g l)
+records l c k h = freed (summed (λ x. pos 0) (λ x d. ≤ℤ-refl (pos 0)) l c k (λ x d. freed (h x d)))

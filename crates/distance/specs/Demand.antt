@@ -1,9 +1,9 @@
--- Document 01, "Distance from the unrounded value": no printed figure is further from the unrounded one than demand 3 allows.
+-- Document 01, "Distance from the unrounded value", and demand 3: how far a printed figure may be from the unrounded one.
 use Prim.Native.Nat.{ℕ, _+_, _*_, _≤_, _<_}
 use mathlib.Core.Path.{_≡_}
 use mathlib.Core.Bool.{cond, _||_}
 use mathlib.Core.List.{List}
-use lib.IntN.{pos, natAbs, _-ℤ_, _*ℤ_}
+use lib.IntN.{ℤ, pos, natAbs, _-ℤ_, _*ℤ_}
 use Rattle.arith.specs.Root.{root}
 use Rattle.text.specs.Bytes.{bytes}
 use Rattle.sheet.specs.Firing.{Wall, Firing}
@@ -15,16 +15,17 @@ use Rattle.formulas.specs.Rounding.{Rounding, square, exact}
 use Rattle.formulas.specs.Formulas.{sum, sectionOf, stageOf}
 use Rattle.formulas.specs.Report.{Figure, number, heat, share, Line, lines, Fraction, fraction, printed}
 
--- ---- THE UNROUNDED VALUE is a fraction of whole numbers: the report's, where nothing is rounded. For A Δ√Δ of a reading two stand in
+-- ---- THE UNROUNDED VALUE is a fraction of whole numbers: the report's own, with nothing rounded. For A Δ√Δ two stand in, in 1e-5 W/m²:
+-- the cut-down term, and one unit more
 pub data Stand : Type 0 where
   cutDown oneMore : Stand
 
--- n is the exact square, in (1e-5 W/m²)²: the cut-down term, and one unit of 1e-5 W/m² more
+-- n is the exact square
 abbrev pub standIn : Stand → ℕ → ℕ
 standIn cutDown n = root n
 standIn oneMore n = root n + 1
 
--- their squares enclose the exact square
+-- the stand-ins' squares enclose it
 pub record Enclosed (n : ℕ) : Type 0 where
   pub low : standIn cutDown n * standIn cutDown n ≤ n
   pub high : n < standIn oneMore n * standIn oneMore n
@@ -39,7 +40,7 @@ against choice = exact (λ w a Δ. standIn (choice w) (square a Δ))
 abbrev pub unrounded : Firing → Choice → Line → Fraction
 unrounded f choice l = fraction f (against choice) (l .figure)
 
--- ---- THE SURFACE MEASURED: a reading's area times its stage's time, summed over all readings, in 0.01 m²·minutes
+-- ---- THE SURFACE: a reading's area times its stage's time, summed over all readings, in 0.01 m²·minutes
 abbrev pub surface : Firing → ℕ
 surface f = natAbs (sum (λ w. sectionOf f w .area *ℤ stageOf f w .minutes) (f .walls))
 
@@ -47,23 +48,25 @@ surface f = natAbs (sum (λ w. sectionOf f w .area *ℤ stageOf f w .minutes) (f
 abbrev pub thousand : ℕ
 thousand = 1000 * 100 * 60
 
--- ---- WHAT IS ALLOWED, in the unit that is printed: the firing number as it stands, a heat to 4 kJ per tonne, an efficiency to 0.01 %
+-- ---- WHAT IS ALLOWED, in the unit that is printed: to the firing number nothing, to a heat 4 kJ per tonne, to an efficiency 0.01 %
 abbrev pub allowed : Figure → ℕ
 allowed number = 0
 allowed (heat q) = 4
 allowed (share q) = 1
 
--- and for each 1,000 square-metre-hours 1 kJ per tonne more: x9 and x11 only
+-- and 1 kJ per tonne more for each 1,000 square-metre-hours: to x9 and x11, and to no other line
 abbrev pub leeway : List ℕ → ℕ
 leeway key = cond (sameKey key (bytes "x9") || sameKey key (bytes "x11")) 1 0
 
--- ---- A LINE IS NEAR: |printed − over/under| ≤ allowed + leeway · surface/thousand, both sides times under and thousand
-pub record Near (f : Firing) (choice : Choice) (l : Line) : Type 0 where
-  pub some : 0 < unrounded f choice l .under
-  pub near : thousand * natAbs (printed f (l .figure) *ℤ pos (unrounded f choice l .under) -ℤ unrounded f choice l .over)
-      ≤ (allowed (l .figure) * thousand + leeway (l .key) * surface f) * unrounded f choice l .under
+-- ---- A LINE IS NEAR where |printed − unrounded| ≤ allowed + leeway · surface / thousand. Multiplied out, |x − over/under| ≤ a/b is
+abbrev pub Within : ℕ → ℕ → ℤ → Fraction → Type 0
+Within a b x y = b * natAbs (x *ℤ pos (y .under) -ℤ y .over) ≤ a * y .under
 
--- ---- DEMAND 3: of every accepted text, against either stand-in at each reading, every line of the report is near
+pub record Near (f : Firing) (choice : Choice) (l : Line) : Type 0 where
+  pub is-fraction : 0 < unrounded f choice l .under
+  pub near : Within (allowed (l .figure) * thousand + leeway (l .key) * surface f) thousand (printed f (l .figure)) (unrounded f choice l)
+
+-- ---- DEMAND 3: of every text that is accepted, whichever stand-in is chosen for each reading, every line of the report is near
 pub record Demand3 : Type 0 where
   pub enclosed : (n : ℕ) → Enclosed n
   pub near : (text : List ℕ) (sheet : Sheet) → readOf document01 text ≡ Good sheet → (choice : Choice) → Every (Near (firingOf sheet) choice) lines
