@@ -13,9 +13,10 @@ use Rattle.lines.specs.Rules.{Every}
 use Rattle.lines.specs.Rows.{sheetOf}
 use Rattle.formulas.specs.Marked.{worked}
 use Rattle.formulas.specs.Report.{lines}
-use Rattle.distance.specs.Demand.{cutDown, oneMore, Choice, Near}
+use Rattle.distance.specs.Demand.{cutDown, oneMore, Near}
 use Rattle.distance.proofs.Distance.{demand3}
 
+-- its text, and that it is accepted, by computation
 abbrev text : List ℕ
 text = textOf document01 (sheetOf worked)
 

@@ -1,4 +1,5 @@
--- Document 01, "Distance from the unrounded value", and demand 3: how far a printed figure may be from the unrounded one.
+-- Document 01, "Distance from the unrounded value", and demand 3: how far a printed figure may be from the unrounded one. `natAbs x` is |x|,
+-- and `Every P l` says P of each element of the list l.
 use Prim.Native.Nat.{ℕ, _+_, _*_, _≤_, _<_}
 use mathlib.Core.Path.{_≡_}
 use mathlib.Core.Bool.{cond, _||_}
@@ -20,12 +21,12 @@ use Rattle.formulas.specs.Report.{Figure, number, heat, share, Line, lines, Fra
 pub data Stand : Type 0 where
   cutDown oneMore : Stand
 
--- n is the exact square
+-- n is the exact square of the term
 abbrev pub standIn : Stand → ℕ → ℕ
 standIn cutDown n = root n
 standIn oneMore n = root n + 1
 
--- the stand-ins' squares enclose it
+-- the squares of the two enclose it
 pub record Enclosed (n : ℕ) : Type 0 where
   pub low : standIn cutDown n * standIn cutDown n ≤ n
   pub high : n < standIn oneMore n * standIn oneMore n
