@@ -3,3 +3,5 @@ pub mod Tables
 pub mod Formulas
 pub mod Report
 pub mod Marked
+pub mod Figures
+pub mod Steps

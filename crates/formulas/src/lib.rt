@@ -1,5 +1,7 @@
-// The formulas of a heat balance and the figures of its report, as definitions; and the rows of the standard's tables, which the code
-// and the definitions share.
+// The formulas of a heat balance and the figures of its report, as definitions; and what the code of every heat shares: the rows of the
+// standard's tables, the lines of a block, and the way from exact products to whole joules.
+pub mod block;
+pub mod rounding;
 
 // A line of table A.2: a + b T, with a in 0.01 and b in 1e-6 kJ/(kg·°C).
 pub struct Line {

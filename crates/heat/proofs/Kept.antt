@@ -12,7 +12,7 @@ use Rattle.lines.specs.Limits.{Limits}
 use Rattle.formulas.specs.Formulas.{sum}
 use Rattle.formulas.specs.Rounding.{Rounding}
 use Rattle.heat.specs.Balance.{Kept, Heat}
-use Rattle.heat.proofs.Units.{only}
+use Rattle.formulas.proofs.Units.{only}
 
 -- its firing is written out field by field, so that the limits are those of the struct's own fields
 pub own : {x : Sheet} {f : Firing} → Kept x f → Limits (firing x (f .walls))

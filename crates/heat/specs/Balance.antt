@@ -11,7 +11,7 @@ use Rattle.heat.specs.declared.Gases.{Gases}
 use Rattle.heat.specs.declared.Heats.{Heats}
 use Rattle.formulas.specs.Rounding.{Rounding, paper}
 use Rattle.formulas.specs.Formulas.{joule, q1, q2, q3, q5, q8, income, x1, x2, x3, x5, x7, x8, x9, x10, x11, useful, withset}
-use Rattle.heat.specs.Figures.{Figure}
+use Rattle.formulas.specs.Figures.{Figure}
 
 -- the firing is shown by the sheet and keeps the rules
 pub record Kept (x : Sheet) (f : Firing) : Type 0 where

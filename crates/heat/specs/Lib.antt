@@ -1,5 +1,2 @@
-pub mod Figures
 pub mod Steps
-pub mod Mixture
-pub mod Cells
 pub mod Balance

@@ -1,14 +1,4 @@
-// The formulas of a heat balance, from a sheet to joules.
-mod block;
-mod flue;
-mod fuel;
-mod material;
-mod mixture;
-mod records;
-mod rounding;
-mod surface;
-mod water;
-
+// The balance of a firing, from a sheet to joules.
 ghost use mathlib.Core.Path.{_≡_};
 ghost use lib.IntN.{_+ℤ_};
 ghost use Rattle.sheet.specs.Firing.{Firing};
@@ -17,23 +7,23 @@ ghost use Rattle.heat.specs.Steps.{ThreeFits, FiveFits};
 ghost use Rattle.heat.specs.Balance.{Kept, Heat, Incomes, SolidHeats, GasHeats, Balanced};
 use flue::x7;
 use flue::x8;
+use fuel::mixture::burning_of;
+use fuel::mixture::warmth_of;
 use fuel::q1;
 use fuel::q2;
 use fuel::total_gas;
-use mixture::burning_of;
-use mixture::warmth_of;
 use quantity::heat::Joules;
-use records::q3;
-use records::q5;
-use records::q8;
-use records::x1;
-use records::x5;
-use records::x10;
 use sheet::Sheet;
+use solids::records::q3;
+use solids::records::q5;
+use solids::records::q8;
+use solids::records::x1;
+use solids::records::x5;
+use solids::records::x10;
+use solids::water::water_heat;
+use solids::water::x2;
+use solids::water::x3;
 use surface::x9;
-use water::water_heat;
-use water::x2;
-use water::x3;
 
 // The heat of the fuel: of burning, and above the base temperature.
 pub struct FuelHeat {

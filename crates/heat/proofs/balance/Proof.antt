@@ -3,8 +3,8 @@ use mathlib.Core.List.{[], _∷_}
 use borrow.Author.Needs.{needs}
 use Rattle.arith.proofs.Machine.{raw, _⟨+⟩_, _⟨-⟩_}
 use Rattle.formulas.specs.Formulas.{x11, withset}
-use Rattle.heat.proofs.Units.{plus, minus}
-use Rattle.heat.proofs.Sizes.{within, most, fit}
+use Rattle.formulas.proofs.Units.{plus, minus}
+use Rattle.formulas.proofs.Sizes.{within, most, fit}
 use Rattle.heat.proofs.balance.Statement.{statement}
 use Rattle.heat.proofs.balance.Tie as tie
 

@@ -5,8 +5,8 @@ use Rattle.sheet.specs.Firing.{Gas, Stage}
 use Rattle.lines.specs.Quantities.{gasTotal}
 use Rattle.lines.specs.Limits.{In}
 use Rattle.formulas.specs.Formulas.{totalGas}
-use Rattle.heat.specs.Mixture.{Warmed}
-use Rattle.heat.specs.Steps.{stagesOf}
+use Rattle.fuel.specs.Mixture.{Warmed}
+use Rattle.formulas.specs.Steps.{stagesOf}
 use Rattle.heat.proofs.Kept.{own, field, sum-of}
 use Rattle.heat.proofs.fuel_heat.Statement.{statement}
 use Rattle.heat.proofs.fuel_heat.Tie as tie

@@ -3,8 +3,8 @@ use mathlib.Core.Path.{sym, _∙_, subst}
 use borrow.Author.Needs.{needs}
 use Rattle.sheet.specs.declared.Sheet.{Sheet}
 use Rattle.sheet.specs.Firing.{Gas, Firing}
-use Rattle.heat.specs.Mixture.{Burnt}
-use Rattle.heat.specs.Cells.{Seen}
+use Rattle.fuel.specs.Mixture.{Burnt}
+use Rattle.surface.specs.Cells.{Seen}
 use Rattle.heat.specs.Balance.{Kept}
 use Rattle.heat.proofs.Kept.{own, field}
 use Rattle.heat.proofs.gases_of.Statement.{statement}

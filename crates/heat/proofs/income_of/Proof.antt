@@ -4,8 +4,8 @@ use mathlib.Core.List.{[], _∷_}
 use borrow.Author.Needs.{needs}
 use Rattle.arith.proofs.Machine.{raw, _⟨+⟩_}
 use Rattle.formulas.specs.Formulas.{income}
-use Rattle.heat.proofs.Units.{plus}
-use Rattle.heat.proofs.Sizes.{within, sized, most, fit}
+use Rattle.formulas.proofs.Units.{plus}
+use Rattle.formulas.proofs.Sizes.{within, sized, most, fit}
 use Rattle.heat.proofs.Kept.{own, field}
 use Rattle.heat.proofs.income_of.Statement.{statement}
 use Rattle.heat.proofs.income_of.Tie as tie

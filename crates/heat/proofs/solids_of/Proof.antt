@@ -1,7 +1,7 @@
 -- Each heat by its function. Assumes nothing.
 use mathlib.Core.Path.{sym, _∙_}
 use borrow.Author.Needs.{needs}
-use Rattle.heat.proofs.Sizes.{sized}
+use Rattle.formulas.proofs.Sizes.{sized}
 use Rattle.heat.proofs.Kept.{own, field}
 use Rattle.heat.proofs.solids_of.Statement.{statement}
 use Rattle.heat.proofs.solids_of.Tie as tie

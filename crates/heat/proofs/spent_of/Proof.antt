@@ -9,10 +9,10 @@ use Rattle.heat.specs.declared.Solids.{Solids}
 use Rattle.heat.specs.declared.Gases.{Gases}
 use Rattle.formulas.specs.Rounding.{paper}
 use Rattle.formulas.specs.Formulas.{joule, x1, x2, x3, x5, x7, x8, x9, x10, spent}
-use Rattle.heat.specs.Figures.{Figure}
+use Rattle.formulas.specs.Figures.{Figure}
 use Rattle.heat.specs.Balance.{SolidHeats, GasHeats}
-use Rattle.heat.proofs.Units.{plus}
-use Rattle.heat.proofs.Sizes.{within, most, fit}
+use Rattle.formulas.proofs.Units.{plus}
+use Rattle.formulas.proofs.Sizes.{within, most, fit}
 use Rattle.heat.proofs.spent_of.Statement.{statement}
 use Rattle.heat.proofs.spent_of.Tie as tie
 

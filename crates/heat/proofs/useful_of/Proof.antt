@@ -2,8 +2,8 @@
 use mathlib.Core.List.{[], _∷_}
 use Rattle.arith.proofs.Machine.{raw, _⟨+⟩_}
 use Rattle.formulas.specs.Formulas.{useful}
-use Rattle.heat.proofs.Units.{plus}
-use Rattle.heat.proofs.Sizes.{within, most, fit}
+use Rattle.formulas.proofs.Units.{plus}
+use Rattle.formulas.proofs.Sizes.{within, most, fit}
 use Rattle.heat.proofs.Kept.{own, field}
 use Rattle.heat.proofs.useful_of.Statement.{statement}
 use Rattle.heat.proofs.useful_of.Tie as tie

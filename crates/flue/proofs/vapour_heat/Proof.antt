@@ -1,0 +1,48 @@
+-- The rounded mass times 1.93 times the rise is in millionths of a joule; `joules` rounds it. Assumes nothing.
+use mathlib.Core.List.{[], _∷_}
+use Prim.Native.Nat.{_*_, _/_, _^_}
+use borrow.Author.Needs.{needs}
+use lib.Dec.{lit<}
+use lib.IntN.{pos, _-ℤ_}
+use Rattle.arith.proofs.Machine.{raw, num, _⟨-⟩_, _⟨*⟩_}
+use Rattle.formulas.specs.Formulas.{joule, vapourHeat}
+use Rattle.formulas.proofs.Units.{times, finer, rounded}
+use Rattle.formulas.proofs.Sizes.{limits, within, most, fit}
+use Rattle.flue.proofs.vapour_heat.Statement.{statement}
+use Rattle.flue.proofs.vapour_heat.Tie as tie
+
+degrees-requires : tie.Need-degrees-requires
+degrees-requires c κs = search needs
+
+above-requires : tie.Need-above-requires
+above-requires c κs =
+    let p = c .before .pre in
+    rw (c .degrees .ensures) (fit (limits (p .moist .burns .stage .flue) ∷ limits (p .ambient) ∷ []) (raw 0 ⟨-⟩ raw 1) tt)
+
+vapour-requires : tie.Need-vapour-requires
+vapour-requires c κs = search needs
+
+vapour-carried-requires : tie.Need-vapour-carried-requires
+vapour-carried-requires c κs =
+    let p = c .before .before .before .pre in
+    let ks = within (c .vapour .ensures (p .moist .burns .gas) (p .moist .burns .burnt) .size) ∷ limits (p .moist .burns .stage .flue) ∷ limits (p .ambient) ∷ [] in
+    rw (c .before .above .ensures, c .before .before .degrees .ensures)
+    (record { one = fit ks (raw 0 ⟨*⟩ num (pos 193)) tt; all = fit ks (raw 0 ⟨*⟩ num (pos 193) ⟨*⟩ (raw 1 ⟨-⟩ raw 2)) tt })
+
+joules-requires : tie.Need-joules-requires
+joules-requires c κs = search needs
+
+returns : tie.Need-returns
+unfolding vapourHeat
+returns c =
+    let s = c .before .before .before .before .before in
+    let mass = c .before .before .vapour .ensures in
+    let rise = s .args .stage .flue .0 -ℤ s .args .t .0 in
+    λ g b.
+    let size = most (within (mass g b .size) ∷ limits (s .pre .moist .burns .stage .flue) ∷ limits (s .pre .ambient) ∷ []) (raw 0 ⟨*⟩ num (pos 193) ⟨*⟩ (raw 1 ⟨-⟩ raw 2)) {B = 660192738238156000} tt in
+    rounded 1000000 (joule / 10 ^ 6) (lit< tt) (lit< tt) (finer (times (times (mass g b .is) (pos 193)) rise) (joule / (56 * 10 ^ 17))) size (lit< tt) (cc)
+
+pub vapour-heat-spec : {M : Type 1} → statement M
+vapour-heat-spec =
+    tie.close
+    (tie.spec degrees-requires above-requires vapour-requires vapour-carried-requires joules-requires returns)

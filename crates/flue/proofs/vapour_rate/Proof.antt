@@ -1,0 +1,49 @@
+-- The exact rate is the formula's, and `rounded` rounds it. Assumes nothing.
+use mathlib.Core.Path.{refl}
+use mathlib.Core.List.{List, [], _∷_}
+use borrow.Author.Needs.{needs}
+use lib.Dec.{lit<}
+use lib.IntN.{ℤ, pos}
+use Rattle.arith.proofs.Machine.{Known, Mx, raw, num, _⟨+⟩_, _⟨*⟩_}
+use Rattle.sheet.specs.Firing.{Stage}
+use Rattle.fuel.specs.declared.mixture.Burning.{Burning}
+use Rattle.formulas.specs.Formulas.{vapourRate}
+use Rattle.flue.specs.Steps.{MoistIn}
+use Rattle.formulas.proofs.Units.{exactly, rounded}
+use Rattle.formulas.proofs.Sizes.{limits, within, most, fit}
+use Rattle.flue.proofs.vapour_rate.Statement.{statement}
+use Rattle.flue.proofs.vapour_rate.Tie as tie
+
+abbrev known : {m : Burning} {X : ℤ} {s : Stage} → MoistIn m X s → List Known
+known p = limits (p .burns .stage .excess) ∷ within (p .burns .burnt .air .size) ∷ limits (p .moisture) ∷ within (p .burns .burnt .vapour .size) ∷ []
+
+abbrev moist : Mx
+moist = num (pos 1293) ⟨*⟩ raw 0 ⟨*⟩ raw 1 ⟨*⟩ raw 2
+
+abbrev all : Mx
+all = moist ⟨*⟩ num (pos 56) ⟨+⟩ raw 3 ⟨*⟩ num (pos 45000000000000)
+
+rate-exact-requires : tie.Need-rate-exact-requires
+rate-exact-requires c κs =
+    let ks = known (c .pre) in
+    record {
+      dense = fit ks (num (pos 1293) ⟨*⟩ raw 0) tt;
+      aired = fit ks (num (pos 1293) ⟨*⟩ raw 0 ⟨*⟩ raw 1) tt;
+      moist = fit ks moist tt;
+      over = fit ks (moist ⟨*⟩ num (pos 56)) tt;
+      own = fit ks (raw 3 ⟨*⟩ num (pos 45000000000000)) tt;
+      all = fit ks all tt;
+    }
+
+rounded-requires : tie.Need-rounded-requires
+rounded-requires c κs = search needs
+
+returns : tie.Need-returns
+unfolding vapourRate
+returns c =
+    let s = c .before .before in
+    let size = most (known (s .pre)) all {B = 7850758800000000000} tt in
+    λ g b. rw (← b .air .is, ← b .vapour .is) (rounded 560000000 1 (lit< tt) (lit< tt) (exactly refl) size (lit< tt) (cc))
+
+pub vapour-rate-spec : {M : Type 1} → statement M
+vapour-rate-spec = tie.close (tie.spec rate-exact-requires rounded-requires returns)

@@ -1,0 +1,54 @@
+-- What each formula's code asks: that no step of it leaves an i64, or the ranges from which that follows.
+use mathlib.Core.List.{List}
+use lib.IntN.{ℤ, pos, _+ℤ_, _-ℤ_, _*ℤ_}
+use mir.Syntax.{w64}
+use mir.Val.{SFits}
+use Rattle.sheet.specs.Firing.{Gas, Stage}
+use Rattle.lines.specs.Quantities.{ambient, moisture}
+use Rattle.lines.specs.Rules.{Every}
+use Rattle.lines.specs.Limits.{In, StageIn}
+use Rattle.fuel.specs.declared.mixture.Burning.{Burning}
+use Rattle.fuel.specs.Mixture.{Burnt}
+
+pub record DryFits (excess dry air : ℤ) : Type 0 where
+  pub own : SFits w64 (dry *ℤ pos 100000)
+  pub more : SFits w64 (excess -ℤ pos 210)
+  pub aired : SFits w64 ((excess -ℤ pos 210) *ℤ air)
+  pub all : SFits w64 (dry *ℤ pos 100000 +ℤ (excess -ℤ pos 210) *ℤ air)
+
+pub record RateFits (excess air X vapour : ℤ) : Type 0 where
+  pub dense : SFits w64 (pos 1293 *ℤ excess)
+  pub aired : SFits w64 (pos 1293 *ℤ excess *ℤ air)
+  pub moist : SFits w64 (pos 1293 *ℤ excess *ℤ air *ℤ X)
+  pub over : SFits w64 (pos 1293 *ℤ excess *ℤ air *ℤ X *ℤ pos 56)
+  pub own : SFits w64 (vapour *ℤ pos 45000000000000)
+  pub all : SFits w64 (pos 1293 *ℤ excess *ℤ air *ℤ X *ℤ pos 56 +ℤ vapour *ℤ pos 45000000000000)
+
+-- a stage that burns a fuel
+pub record BurnsIn (m : Burning) (s : Stage) : Type 0 where
+  pub gas : Gas
+  pub burnt : Burnt gas m
+  pub stage : StageIn s
+
+pub record DryIn (m : Burning) (s : Stage) (t : ℤ) : Type 0 where
+  pub burns : BurnsIn m s
+  pub ambient : In ambient t
+
+pub record MoistIn (m : Burning) (X : ℤ) (s : Stage) : Type 0 where
+  pub burns : BurnsIn m s
+  pub moisture : In moisture X
+
+pub record FlueIn (m : Burning) (X : ℤ) (s : Stage) (t : ℤ) : Type 0 where
+  pub moist : MoistIn m X s
+  pub ambient : In ambient t
+
+-- all stages
+pub record AllBurnIn (m : Burning) (l : List Stage) : Type 0 where
+  pub gas : Gas
+  pub burnt : Burnt gas m
+  pub stages : Every StageIn l
+
+pub record AllFlueIn (m : Burning) (X : ℤ) (l : List Stage) (t : ℤ) : Type 0 where
+  pub burn : AllBurnIn m l
+  pub moisture : In moisture X
+  pub ambient : In ambient t

@@ -1,0 +1,216 @@
+// The heat that leaves with the flue gas, stage by stage.
+ghost use mathlib.Core.Path.{_≡_};
+ghost use Prim.Native.Nat.{_*_, _^_};
+ghost use lib.IntN.{ℤ, pos, _+ℤ_, _-ℤ_, _*ℤ_};
+ghost use mir.Syntax.{w64};
+ghost use mir.Val.{SFits};
+ghost use Rattle.arith.specs.Nearest.{nearest};
+ghost use Rattle.sheet.specs.Firing.{Gas, Firing};
+ghost use Rattle.sheet.specs.Shown.{stage as stageOf};
+ghost use Rattle.formulas.specs.Rounding.{paper};
+ghost use Rattle.formulas.specs.Formulas.{joule, dryFlue, vapourRate, vapour, dryHeat, vapourHeat, flueHeat, monoxideHeat, x7, x8};
+ghost use Rattle.formulas.specs.Figures.{Figure};
+ghost use Rattle.formulas.specs.Steps.{ProductFits, stagesOf};
+ghost use Rattle.fuel.specs.Mixture.{Burnt};
+ghost use Rattle.flue.specs.Steps.{DryFits, RateFits, BurnsIn, DryIn, MoistIn, FlueIn, AllBurnIn, AllFlueIn};
+use formulas::block::held;
+use formulas::rounding::Microjoules;
+use fuel::mixture::Burning;
+use quantity::gas::CarbonMonoxide;
+use quantity::gas::CubicMetres;
+use quantity::gas::ExcessAir;
+use quantity::gas::Moisture;
+use quantity::heat::Joules;
+use quantity::temperature::Degrees;
+use quantity::temperature::Rise;
+use sheet::Stage;
+use sheet::Stages;
+
+// Dry flue gas for a cubic metre of fuel, in 1e-9 m³.
+pub struct DryRate(pub i64);
+
+// Dry flue gas of a stage: exact, in 1e-10 m³, and rounded, in 1e-5 m³.
+pub struct DryExact(pub i64);
+
+pub struct DryFlue(pub i64);
+
+// Vapour for a cubic metre of fuel: exact, in 1e-16/56 kg, and rounded, in 1e-9 kg.
+pub struct RateExact(pub i64);
+
+pub struct VapourRate(pub i64);
+
+// Vapour of a stage: exact, in 1e-10 kg, and rounded, in 1e-6 kg.
+pub struct VapourExact(pub i64);
+
+pub struct VapourMass(pub i64);
+
+impl DryExact {
+    // To the nearest 1e-5 m³.
+    fn rounded(self) -> DryFlue
+        ensures { λ r. ⌜ r .0 ≡ nearest (self .0) 100000 ⌝ }
+    {
+        DryFlue(arith::nearest(self.0, 100_000))
+    }
+}
+
+impl RateExact {
+    // To the nearest 1e-9 kg.
+    fn rounded(self) -> VapourRate
+        ensures { λ r. ⌜ r .0 ≡ nearest (self .0) 560000000 ⌝ }
+    {
+        VapourRate(arith::nearest(self.0, 560_000_000))
+    }
+}
+
+impl VapourExact {
+    // To the nearest 1e-6 kg.
+    fn rounded(self) -> VapourMass
+        ensures { λ r. ⌜ r .0 ≡ nearest (self .0) 10000 ⌝ }
+    {
+        VapourMass(arith::nearest(self.0, 10_000))
+    }
+}
+
+// Formula B.10 with B.4 put in: the dry flue gas for a cubic metre of fuel.
+fn dry_rate(burning: Burning, excess: ExcessAir) -> DryRate
+    requires { ⌜ DryFits (excess .0) (burning .dry) (burning .air) ⌝ }
+    ensures { λ r. ⌜ r .0 ≡ burning .dry *ℤ pos 100000 +ℤ (excess .0 -ℤ pos 210) *ℤ burning .air ⌝ }
+{
+    DryRate(burning.dry * 100_000 + (excess.0 - 210) * burning.air)
+}
+
+// The dry flue gas of all fuel of a stage.
+fn dry_exact(gas: CubicMetres, rate: DryRate) -> DryExact
+    requires { ⌜ SFits w64 (gas .0 *ℤ rate .0) ⌝ }
+    ensures { λ r. ⌜ r .0 ≡ gas .0 *ℤ rate .0 ⌝ }
+{
+    DryExact(gas.0 * rate.0)
+}
+
+// The dry flue gas of a stage.
+fn dry_flue(burning: Burning, stage: Stage) -> DryFlue
+    requires { ⌜ BurnsIn burning (stageOf stage) ⌝ }
+    ensures { λ r. ⌜ ((g : Gas) → Burnt g burning → Figure (10 ^ 5) 304405200000 (r .0) (dryFlue paper g (stageOf stage))) ⌝ }
+{
+    dry_exact(stage.gas, dry_rate(burning, stage.excess)).rounded()
+}
+
+// Formula B.15.
+fn rate_exact(burning: Burning, moisture: Moisture, stage: Stage) -> RateExact
+    requires { ⌜ RateFits (stage .excess .0) (burning .air) (moisture .0) (burning .vapour) ⌝ }
+    ensures { λ r. ⌜ r .0 ≡ pos 1293 *ℤ stage .excess .0 *ℤ burning .air *ℤ moisture .0 *ℤ pos 56 +ℤ burning .vapour *ℤ pos 45000000000000 ⌝ }
+{
+    RateExact(
+        1293 * stage.excess.0 * burning.air * moisture.0 * 56 + burning.vapour * 45_000_000_000_000,
+    )
+}
+
+// The vapour for a cubic metre of fuel.
+fn vapour_rate(burning: Burning, moisture: Moisture, stage: Stage) -> VapourRate
+    requires { ⌜ MoistIn burning (moisture .0) (stageOf stage) ⌝ }
+    ensures { λ r. ⌜ ((g : Gas) → Burnt g burning → Figure (56 * 10 ^ 7) 14019212143 (r .0) (vapourRate paper g (moisture .0) (stageOf stage))) ⌝ }
+{
+    rate_exact(burning, moisture, stage).rounded()
+}
+
+// The vapour of all gas of a stage, from the rounded rate.
+fn vapour_exact(rate: VapourRate, gas: CubicMetres) -> VapourExact
+    requires { ⌜ SFits w64 (rate .0 *ℤ gas .0) ⌝ }
+    ensures { λ r. ⌜ r .0 ≡ rate .0 *ℤ gas .0 ⌝ }
+{
+    VapourExact(rate.0 * gas.0)
+}
+
+// The vapour of a stage.
+fn vapour(burning: Burning, moisture: Moisture, stage: Stage) -> VapourMass
+    requires { ⌜ MoistIn burning (moisture .0) (stageOf stage) ⌝ }
+    ensures { λ r. ⌜ ((g : Gas) → Burnt g burning → Figure (56 * 10 ^ 11) 280384242860 (r .0) (vapour paper g (moisture .0) (stageOf stage))) ⌝ }
+{
+    vapour_exact(vapour_rate(burning, moisture, stage), stage.gas).rounded()
+}
+
+// V c (flue − t) of the dry flue gas.
+fn dry_carried(volume: DryFlue, rise: Rise) -> Microjoules
+    requires { ⌜ ProductFits (volume .0) (pos 1384) (rise .0) ⌝ }
+    ensures { λ r. ⌜ r .0 ≡ volume .0 *ℤ pos 1384 *ℤ rise .0 ⌝ }
+{
+    Microjoules(volume.0 * 1384 * rise.0)
+}
+
+// The heat of a stage's dry flue gas.
+fn dry_heat(burning: Burning, stage: Stage, t: Degrees) -> Joules
+    requires { ⌜ DryIn burning (stageOf stage) (t .0) ⌝ }
+    ensures { λ r. ⌜ ((g : Gas) → Burnt g burning → Figure joule 5139820920960 (r .0) (dryHeat paper g (t .0) (stageOf stage))) ⌝ }
+{
+    let rise = stage.flue.degrees().above(t);
+    dry_carried(dry_flue(burning, stage), rise).joules()
+}
+
+// m c (flue − t) of the vapour.
+fn vapour_carried(mass: VapourMass, rise: Rise) -> Microjoules
+    requires { ⌜ ProductFits (mass .0) (pos 193) (rise .0) ⌝ }
+    ensures { λ r. ⌜ r .0 ≡ mass .0 *ℤ pos 193 *ℤ rise .0 ⌝ }
+{
+    Microjoules(mass.0 * 193 * rise.0)
+}
+
+// The heat of a stage's vapour.
+fn vapour_heat(burning: Burning, moisture: Moisture, stage: Stage, t: Degrees) -> Joules
+    requires { ⌜ FlueIn burning (moisture .0) (stageOf stage) (t .0) ⌝ }
+    ensures { λ r. ⌜ ((g : Gas) → Burnt g burning → Figure joule 660192738239 (r .0) (vapourHeat paper g (moisture .0) (t .0) (stageOf stage))) ⌝ }
+{
+    let rise = stage.flue.degrees().above(t);
+    vapour_carried(vapour(burning, moisture, stage), rise).joules()
+}
+
+// The heat of a stage's flue gas.
+fn flue_heat(burning: Burning, moisture: Moisture, stage: Stage, t: Degrees) -> Joules
+    requires { ⌜ FlueIn burning (moisture .0) (stageOf stage) (t .0) ⌝ }
+    ensures { λ r. ⌜ ((g : Gas) → Burnt g burning → Figure joule 5800013659199 (r .0) (flueHeat paper g (moisture .0) (t .0) (stageOf stage))) ⌝ }
+{
+    dry_heat(burning, stage, t).plus(vapour_heat(burning, moisture, stage, t))
+}
+
+// The heat that leaves with the flue gas.
+pub fn x7(burning: Burning, moisture: Moisture, stages: Stages, t: Degrees) -> Joules
+    requires { ⌜ AllFlueIn burning (moisture .0) (stagesOf stages) (t .0) ⌝ }
+    ensures { λ r. ⌜ ((f : Firing) → Burnt (f .gas) burning → f .moisture ≡ moisture .0 → f .stages ≡ stagesOf stages → f .ambient ≡ t .0 → Figure joule 69600163910388 (r .0) (x7 f paper)) ⌝ }
+{
+    let lines = stages.lines;
+    let count = held(stages.count.0, 12);
+    let mut sum = Joules(0);
+    for i in 0..count {
+        sum = sum.plus(flue_heat(burning, moisture, lines[i], t));
+    }
+    sum
+}
+
+// V CO 12750, with CO as a fraction.
+fn unburnt(volume: DryFlue, co: CarbonMonoxide) -> Microjoules
+    requires { ⌜ ProductFits (volume .0) (co .0) (pos 12750) ⌝ }
+    ensures { λ r. ⌜ r .0 ≡ volume .0 *ℤ co .0 *ℤ pos 12750 ⌝ }
+{
+    Microjoules(volume.0 * co.0 * 12_750)
+}
+
+// Formula 23: the heat that a stage's carbon monoxide would have given.
+fn monoxide_heat(burning: Burning, stage: Stage) -> Joules
+    requires { ⌜ BurnsIn burning (stageOf stage) ⌝ }
+    ensures { λ r. ⌜ ((g : Gas) → Burnt g burning → Figure joule 3881166300000 (r .0) (monoxideHeat paper g (stageOf stage))) ⌝ }
+{
+    unburnt(dry_flue(burning, stage), stage.co).joules()
+}
+
+// The heat that leaves unburnt.
+pub fn x8(burning: Burning, stages: Stages) -> Joules
+    requires { ⌜ AllBurnIn burning (stagesOf stages) ⌝ }
+    ensures { λ r. ⌜ ((f : Firing) → Burnt (f .gas) burning → f .stages ≡ stagesOf stages → Figure joule 46573995600000 (r .0) (x8 f paper)) ⌝ }
+{
+    let lines = stages.lines;
+    let count = held(stages.count.0, 12);
+    let mut sum = Joules(0);
+    for i in 0..count {
+        sum = sum.plus(monoxide_heat(burning, lines[i]));
+    }
+    sum
+}

@@ -1,0 +1,92 @@
+-- Sums over the first lines of an array, one line more at a time. Assumes nothing.
+use Prim.Native.Nat.{ℕ, zero, suc, _+_, _*_, _≤_, _<_, min}
+use mathlib.Core.Path.{_≡_, sym, ap, _∙_, subst}
+use mathlib.Core.List.{List, [], _∷_, map}
+use native.Mathlib.Nat.{le-trans, mul-le-mul-right, lt-of-le-of-lt, le-of-suc-le-suc, not-suc-le-zero}
+use native.Mathlib.Decide.{decLe}
+use native.Mathlib.Numerals.{add-one}
+use native.Mathlib.Omega.{arith}
+use lib.Dec.{T, leb, leb→le, lit<}
+use lib.IntN.{ℤ, pos, natAbs, _+ℤ_}
+use lib.ListN.{length, getD, take, length-map}
+use lib.Seq.{take-all, take-length}
+use mir.Syntax.{w64}
+use mir.Val.{SFits}
+use Rattle.arith.proofs.Ring.{v, #, _⊕_, _⊗_, ring}
+use Rattle.arith.proofs.Order.{bound-add, sfits-abs}
+use Rattle.sheet.specs.declared.Stage.{Stage as Stageˢ}
+use Rattle.lines.specs.Rules.{Every}
+use Rattle.formulas.specs.Formulas.{sum}
+use Rattle.formulas.specs.Figures.{Is, Figure}
+use Rattle.formulas.proofs.Units.{plus}
+
+module _ {A B : Type 0} (f : B → ℤ) (g : A → B) where
+  -- the sum over the first i lines
+  abbrev pub first : List A → ℕ → ℤ
+  first l i = sum f (map g (take i l))
+
+  next : (l : List A) (i : ℕ) (d : A) → i < length l → first l (suc i) ≡ first l i +ℤ f (g (getD l i d))
+  unfolding sum
+  next [] i d h = absurd (not-suc-le-zero h)
+  next (a ∷ l) zero d h = ring (f (g a) ∷ []) (v 0 ⊕ # 0) (# 0 ⊕ v 0) tt
+  next (a ∷ l) (suc i) d h =
+      ap (λ (z : ℤ). f (g a) +ℤ z) (next l i d (le-of-suc-le-suc h))
+      ∙ ring (f (g a) ∷ first l i ∷ f (g (getD l i d)) ∷ []) (v 0 ⊕ (v 1 ⊕ v 2)) (v 0 ⊕ v 1 ⊕ v 2) tt
+
+-- what holds of each of the first n lines
+pub each : {A B : Type 0} (P : B → Type 0) (g : A → B) (l : List A) (n i : ℕ) (d : A) → Every P (map g (take n l)) → i < n → i < length l → P (g (getD l i d))
+each P g [] n i d p h k = absurd (not-suc-le-zero k)
+each P g (a ∷ l) zero i d p h k = absurd (not-suc-le-zero h)
+each P g (a ∷ l) (suc n) zero d p h k = p .0
+each P g (a ∷ l) (suc n) (suc i) d p h k = each P g l n i d (p .1) (le-of-suc-le-suc h) (le-of-suc-le-suc k)
+
+-- an array in a struct has the length of what the struct keeps of it
+pub unmapped : {A B : Type 0} (f : A → B) (l : List A) (n : ℕ) → length (map f l) ≡ n → length l ≡ n
+unmapped f l n e = sym (length-map l f) ∙ e
+
+-- a count above the array's length names no more lines than there are
+pub held : {A : Type 0} (l : List A) (n : ℕ) {most : ℕ} → length l ≡ most → take (min n most) l ≡ take n l
+held l n {most} e = go (decLe n most)
+  where
+    go : Dec (n ≤ most) → take (min n most) l ≡ take n l
+    go (yes p) = let k : min n most ≡ n = omega arith in rw k
+    go (no f) = let k : min n most ≡ length l = omega arith in let h : length l ≤ n = omega arith in rw k (take-length l ∙ sym (take-all n l h))
+
+-- n units, of i figures of at most `most` units each
+pub record Running (unit most i : ℕ) (n x : ℤ) : Type 0 where
+  pub is : Is unit n x
+  pub size : natAbs n ≤ i * most
+
+pub none : {k B : ℕ} → Running k B 0 (pos 0) (pos 0)
+none {k} = record { is = record { is = ring (pos k ∷ []) (# 0) (# 0 ⊗ v 0) tt }; size = omega arith }
+
+module _ {k B i : ℕ} {m n x y : ℤ} (p : Running k B i m x) (q : Figure k B n y) where
+  one-more : natAbs (m +ℤ n) ≤ (i + 1) * B
+  one-more = omega (arith, bound-add m n (p .size) (q .size .size))
+
+  pub more : Running k B (i + 1) (m +ℤ n) (x +ℤ y)
+  more = record { is = plus (p .is) (q .is); size = one-more }
+
+  pub more-fits : (most : ℕ) → i < most → T (leb (most * B) 9223372036854775807) → SFits w64 (m +ℤ n)
+  more-fits most h t =
+      let fewer : i + 1 ≤ most = omega arith in
+      sfits-abs (lt-of-le-of-lt (le-trans one-more (le-trans (mul-le-mul-right B fewer) (leb→le _ _ t))) (lit< tt))
+
+-- at most so many in all
+pub at-most : {k B i : ℕ} {n x : ℤ} (most : ℕ) → i ≤ most → Running k B i n x → Figure k (most * B) n x
+at-most {B = B} most h p = record { is = p .is; size = record { size = le-trans (p .size) (mul-le-mul-right B h) } }
+
+-- the step of a loop over the lines
+pub summed : {A B : Type 0} (f : B → ℤ) (g : A → B) (l : List A) (d : A) {k most i : ℕ} {m n : ℤ} → i < length l → Running k most i m (first f g l i) → Figure k most n (f (g (getD l i d))) → Running k most (i + 1) (m +ℤ n) (first f g l (i + 1))
+summed f g l d {k} {most} {i} {m} {n} h p q =
+    subst (λ (x : ℤ). Running k most (i + 1) (m +ℤ n) x) (sym (ap (first f g l) (add-one i) ∙ next f g l i d h)) (more p q)
+
+-- the loop's end: all lines of the block
+pub blocked : {A B : Type 0} (f : B → ℤ) (g : A → B) (l : List A) (n most : ℕ) {k B₁ i : ℕ} {m : ℤ} → length l ≡ most → i ≡ min n most → Running k B₁ i m (first f g l i) → Figure k (most * B₁) m (sum f (map g (take n l)))
+blocked {A} f g l n most {k} {B₁} {i} {m} long e p =
+    let h : i ≤ most = omega arith in
+    subst (λ (r : List A). Figure k (most * B₁) m (sum f (map g r))) (ap (λ (j : ℕ). take j l) e ∙ held l n long) (at-most most h p)
+
+-- what stands in an array where no stage was read
+abbrev pub blankStage : Stageˢ
+blankStage = record { gas = record { 0 = pos 0 }; excess = record { 0 = pos 0 }; flue = record { 0 = pos 0 }; co = record { 0 = pos 0 }; minutes = record { 0 = pos 0 } }

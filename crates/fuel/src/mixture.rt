@@ -1,0 +1,167 @@
+// The fuel as a mixture of gases: its specific heat, the air that it asks and the flue that it gives.
+ghost use Rattle.sheet.specs.Shown.{gas as gasOf};
+ghost use Rattle.lines.specs.Limits.{GasIn};
+ghost use Rattle.fuel.specs.Mixture.{WarmthFits, Warmer, Warmed, BurningFits, Brighter, Burnt};
+use formulas::Kind;
+use quantity::gas::Share;
+
+// What the shares come to in specific heat: c at 0 °C and its rise to 100 °C, in 1e-7 kJ/(m³·°C).
+pub struct Warmth {
+    pub cold: i64,
+    pub rise: i64,
+}
+
+// What they come to in burning: theoretical air in 1e-6 m³ per m³, dry flue and vapour in 1e-4 m³ per m³.
+pub struct Burning {
+    pub air: i64,
+    pub dry: i64,
+    pub vapour: i64,
+}
+
+// The gases in the gas line's order.
+const TABLE_A1: [Kind; 13] = [
+    Kind {
+        cold: 1275,
+        hot: 1287,
+        air: 238,
+        dry: 0,
+        vapour: 1,
+    },
+    Kind {
+        cold: 1296,
+        hot: 1300,
+        air: 0,
+        dry: 1,
+        vapour: 0,
+    },
+    Kind {
+        cold: 1300,
+        hot: 1301,
+        air: 238,
+        dry: 1,
+        vapour: 0,
+    },
+    Kind {
+        cold: 1304,
+        hot: 1317,
+        air: -476,
+        dry: 0,
+        vapour: 0,
+    },
+    Kind {
+        cold: 1488,
+        hot: 1501,
+        air: 0,
+        dry: 0,
+        vapour: 1,
+    },
+    Kind {
+        cold: 1597,
+        hot: 1697,
+        air: 0,
+        dry: 1,
+        vapour: 0,
+    },
+    Kind {
+        cold: 1563,
+        hot: 1651,
+        air: 952,
+        dry: 1,
+        vapour: 2,
+    },
+    Kind {
+        cold: 1869,
+        hot: 2103,
+        air: 1428,
+        dry: 2,
+        vapour: 2,
+    },
+    Kind {
+        cold: 2061,
+        hot: 2061,
+        air: 1666,
+        dry: 2,
+        vapour: 3,
+    },
+    Kind {
+        cold: 3043,
+        hot: 3959,
+        air: 2380,
+        dry: 3,
+        vapour: 4,
+    },
+    Kind {
+        cold: 4122,
+        hot: 5250,
+        air: 3094,
+        dry: 4,
+        vapour: 5,
+    },
+    Kind {
+        cold: 1530,
+        hot: 1559,
+        air: 714,
+        dry: 1,
+        vapour: 1,
+    },
+    Kind {
+        cold: 1777,
+        hot: 1860,
+        air: 0,
+        dry: 1,
+        vapour: 0,
+    },
+];
+
+// The specific heat with one gas more.
+fn warmer(sum: Warmth, kind: Kind, share: Share) -> Warmth
+    requires { ⌜ WarmthFits sum kind (share .0) ⌝ }
+    ensures { λ r. ⌜ Warmer sum kind (share .0) r ⌝ }
+{
+    Warmth {
+        cold: sum.cold + kind.cold * share.0,
+        rise: sum.rise + (kind.hot - kind.cold) * share.0,
+    }
+}
+
+// The specific heat of a sheet's fuel.
+pub fn warmth_of(gas: [Share; 13]) -> Warmth
+    requires { ⌜ GasIn (gasOf gas) ⌝ }
+    ensures { λ r. ⌜ Warmed (gasOf gas) r ⌝ }
+{
+    let mut sum = Warmth { cold: 0, rise: 0 };
+    for i in 0..13 {
+        let kind = TABLE_A1[i];
+        sum = warmer(sum, kind, gas[i]);
+    }
+    sum
+}
+
+// The burning with one gas more.
+fn brighter(sum: Burning, kind: Kind, share: Share) -> Burning
+    requires { ⌜ BurningFits sum kind (share .0) ⌝ }
+    ensures { λ r. ⌜ Brighter sum kind (share .0) r ⌝ }
+{
+    Burning {
+        air: sum.air + kind.air * share.0,
+        dry: sum.dry + kind.dry * share.0,
+        vapour: sum.vapour + kind.vapour * share.0,
+    }
+}
+
+// The burning of a sheet's fuel.
+pub fn burning_of(gas: [Share; 13]) -> Burning
+    requires { ⌜ GasIn (gasOf gas) ⌝ }
+    ensures { λ r. ⌜ Burnt (gasOf gas) r ⌝ }
+{
+    let mut sum = Burning {
+        air: 0,
+        dry: 0,
+        vapour: 0,
+    };
+    for i in 0..13 {
+        let kind = TABLE_A1[i];
+        sum = brighter(sum, kind, gas[i]);
+    }
+    sum
+}

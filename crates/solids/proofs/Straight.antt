@@ -1,0 +1,44 @@
+-- The sizes of a specific heat on a line of table A.2, whose coefficients are small. Assumes nothing.
+use Prim.Native.Nat.{ℕ}
+use mathlib.Core.Bool.{Bool, _&&_}
+use mathlib.Core.List.{List, [], _∷_}
+use lib.Dec.{T, leb, leb→le}
+use lib.IntN.{ℤ, pos, natAbs}
+use Rattle.arith.proofs.Ring.{both-left, both-right}
+use Rattle.arith.proofs.Machine.{Known, raw, num, _⟨*⟩_, _⟨+⟩_}
+use Rattle.formulas.specs.declared.Line.{Line}
+use Rattle.formulas.specs.Tables.{tableA2, line, lineAt}
+use Rattle.formulas.specs.Formulas.{byTable}
+use Rattle.formulas.specs.Figures.{Within}
+use Rattle.formulas.proofs.Sizes.{within, most, fit, entry}
+use Rattle.solids.specs.Steps.{StraightFits}
+
+modest : Line → Bool
+modest x = leb (natAbs (x .a)) 96 && leb (natAbs (x .b)) 880
+
+module _ (i : ℕ) where
+  modest-at : T (modest (lineAt i))
+  unfolding modest
+  modest-at = entry modest (line 0 0) tableA2 tt tt i
+
+  a-size : Within 96 (lineAt i .a)
+  unfolding modest
+  a-size = record { size = leb→le _ _ (both-left (leb (natAbs (lineAt i .a)) 96) (leb (natAbs (lineAt i .b)) 880) modest-at) }
+
+  b-size : Within 880 (lineAt i .b)
+  unfolding modest
+  b-size = record { size = leb→le _ _ (both-right (leb (natAbs (lineAt i .a)) 96) (leb (natAbs (lineAt i .b)) 880) modest-at) }
+
+  module _ {T : ℤ} (h : Within 18000 T) where
+    abbrev ks : List Known
+    ks = within a-size ∷ within b-size ∷ within h ∷ []
+
+    pub straight-fits : StraightFits (lineAt i .a) (lineAt i .b) T
+    straight-fits = record {
+      start = fit ks (raw 0 ⟨*⟩ num (pos 100000)) tt;
+      rise = fit ks (raw 1 ⟨*⟩ raw 2) tt;
+      all = fit ks (raw 0 ⟨*⟩ num (pos 100000) ⟨+⟩ raw 1 ⟨*⟩ raw 2) tt;
+    }
+
+    pub straight-size : Within 100000000 (byTable i T)
+    straight-size = most ks (raw 0 ⟨*⟩ num (pos 100000) ⟨+⟩ raw 1 ⟨*⟩ raw 2) tt

@@ -1,0 +1,97 @@
+-- The loop's invariant: what is summed so far is the sum over the first i parts. Assumes nothing.
+use mathlib.Core.Path.{_≡_}
+use mathlib.Core.List.{List}
+use Prim.Native.Nat.{_≤_, _-_, min}
+use native.Mathlib.Omega.{arith}
+use borrow.Author.Needs.{needs}
+use lib.IntN.{ℤ}
+use lib.ListN.{length, getD}
+use Rattle.sheet.specs.declared.Part.{Part as Partˢ}
+use Rattle.sheet.specs.Firing.{Part}
+use Rattle.sheet.specs.Shown.{part}
+use Rattle.lines.specs.Limits.{PartIn}
+use Rattle.formulas.specs.Rounding.{paper}
+use Rattle.formulas.specs.Formulas.{joule, sum, sensible, q8}
+use Rattle.formulas.proofs.Sizes.{sized}
+use Rattle.formulas.proofs.Sums.{unmapped, first, each, Running, none, more-fits, summed, blocked}
+use Rattle.solids.proofs.Blank.{blankPart}
+use Rattle.solids.proofs.records.q8.Statement.{statement}
+use Rattle.solids.proofs.records.q8.Tie as tie
+
+abbrev heat : ℤ → Part → ℤ
+heat t x = sensible paper (x .mass) (x .stuff) (x .before) t
+
+abbrev Inv-loop : tie.InvT-loop
+Inv-loop t lines count sum₀ i₀ sum i = (i ≤ count) × Running joule 3600000000000 i (sum .0) (first (heat (t .0)) part lines i)
+
+abbrev μ-loop : tie.MeasureT-loop
+μ-loop t lines count sum₀ i₀ sum i = count - i
+
+abbrev lines : tie.Start Inv-loop μ-loop → List Partˢ
+lines s = s .args .parts .lines
+
+long : (s : tie.Start Inv-loop μ-loop) → length (lines s) ≡ 32
+long s = search (needs, unmapped)
+
+held-requires : tie.Need-held-requires Inv-loop μ-loop
+held-requires c κs = search needs
+
+loop-holds : tie.Need-loop-holds Inv-loop μ-loop
+unfolding sum
+loop-holds c = (omega arith, none)
+
+mul-part : tie.Need-mul-part Inv-loop μ-loop
+mul-part c = omega arith
+
+array-copy-out-part : tie.Need-array-copy-out-part Inv-loop μ-loop
+array-copy-out-part c = omega arith
+
+sensible-requires : tie.Need-sensible-requires Inv-loop μ-loop
+sensible-requires c κs =
+    let s = c .before .before .before .before .before in
+    let i = c .before .before .loop .i in
+    let h : PartIn (part (getD (lines s) i blankPart)) = each PartIn part (lines s) (s .args .parts .count .0) i blankPart (s .pre .each) (omega arith) (omega (arith, long s)) in
+    record { mass = sized (h .mass) tt; stuff = h .stuff; at = sized (h .before) tt; from = s .pre .other }
+
+plus-requires : tie.Need-plus-requires Inv-loop μ-loop
+plus-requires c κs = more-fits (c .before .before .before .loop .inv .1) (c .sensible .ensures) 32 (omega arith) tt
+
+add-i : tie.Need-add-i Inv-loop μ-loop
+add-i c = search needs
+
+loop-less : tie.Need-loop-less Inv-loop μ-loop
+loop-less c = search needs
+
+loop-again : tie.Need-loop-again Inv-loop μ-loop
+loop-again c =
+    let s = c .before .before .before .before .before .before .before in
+    let l = c .before .before .before .before .loop in
+    let more = summed (heat (s .args .t .0)) part (lines s) blankPart (omega (arith, long s)) (l .inv .1) (c .before .sensible .ensures) in
+    (omega arith, rw (c .plus .ensures) more)
+
+returns : tie.Need-returns Inv-loop μ-loop
+unfolding q8
+returns c =
+    let s = c .before .before .before .before in
+    let l = c .before .loop in
+    let e : l .i ≡ min (s .args .parts .count .0) 32 = omega arith in
+    let t = s .args .t .0 in
+    let all = blocked (heat t) part (lines s) (s .args .parts .count .0) 32 (long s) e (l .inv .1) in
+    λ f e₁ e₂. rw (e₁, e₂) all
+
+pub q8-spec : {M : Type 1} → statement M
+q8-spec =
+    tie.close
+    (tie.spec
+    Inv-loop
+    μ-loop
+    held-requires
+    loop-holds
+    mul-part
+    array-copy-out-part
+    sensible-requires
+    plus-requires
+    add-i
+    loop-less
+    loop-again
+    returns)

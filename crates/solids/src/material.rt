@@ -1,0 +1,109 @@
+// Specific heat by table A.2, and the heat that a mass takes up.
+ghost use mathlib.Core.Path.{_≡_};
+ghost use Prim.Native.Nat.{_≤_};
+ghost use lib.IntN.{ℤ, pos, _+ℤ_, _*ℤ_};
+ghost use mir.Syntax.{w64};
+ghost use mir.Val.{SFits};
+ghost use Rattle.sheet.specs.Shown.{stuff as stuffOf};
+ghost use Rattle.formulas.specs.Rounding.{paper};
+ghost use Rattle.formulas.specs.Formulas.{joule, specificHeat, sensible};
+ghost use Rattle.formulas.specs.Figures.{Exact, Figure};
+ghost use Rattle.formulas.specs.Steps.{ProductFits};
+ghost use Rattle.solids.specs.Steps.{RowIs, StraightFits, Heated, Warmed};
+use formulas::Line;
+use formulas::rounding::Microjoules;
+use quantity::heat::Joules;
+use quantity::heat::SpecificHeat;
+use quantity::kiln::Material;
+use quantity::mass::Kilos;
+use quantity::temperature::Degrees;
+use quantity::temperature::Rise;
+use sheet::Stuff;
+
+// A specific heat, in 1e-7 kJ/(kg·°C).
+pub struct Capacity(pub i64);
+
+// The lines by material code, and at 19 and 20 those of corundum and opaque quartz above 800.0.
+const TABLE_A2: [Line; 21] = [
+    Line { a: 0, b: 0 },
+    Line { a: 84, b: 260 },
+    Line { a: 84, b: 260 },
+    Line { a: 42, b: 880 },
+    Line { a: 67, b: 167 },
+    Line { a: 67, b: 126 },
+    Line { a: 80, b: 330 },
+    Line { a: 94, b: 250 },
+    Line { a: 75, b: 150 },
+    Line { a: 77, b: 300 },
+    Line { a: 89, b: 420 },
+    Line { a: 63, b: 126 },
+    Line { a: 73, b: 376 },
+    Line { a: 96, b: 150 },
+    Line { a: 80, b: 334 },
+    Line { a: 84, b: 260 },
+    Line { a: 80, b: 293 },
+    Line { a: 89, b: 0 },
+    Line { a: 46, b: 0 },
+    Line { a: 80, b: 418 },
+    Line { a: 90, b: 167 },
+];
+
+// The line of table A.2 that holds for a material at a temperature.
+fn row(material: Material, at: Degrees) -> usize
+    requires { ⌜ material .0 ≤ 18 ⌝ }
+    ensures { λ r. ⌜ RowIs (material .0) (at .0) r ⌝ }
+{
+    let code = material.0;
+    match code {
+        1 | 2 | 15 => 1,
+        3 => { if at.0 <= 8000 { 3 } else { 19 } }
+        12 => { if at.0 <= 8000 { 12 } else { 20 } }
+        _ => code,
+    }
+}
+
+// The specific heat on a line of the table.
+fn straight(line: Line, at: Degrees) -> Capacity
+    requires { ⌜ StraightFits (line .a) (line .b) (at .0) ⌝ }
+    ensures { λ r. ⌜ r .0 ≡ line .a *ℤ pos 100000 +ℤ line .b *ℤ at .0 ⌝ }
+{
+    Capacity(line.a * 100_000 + line.b * at.0)
+}
+
+// The specific heat that the sheet gives.
+fn given(c: SpecificHeat) -> Capacity
+    requires { ⌜ SFits w64 (c .0 *ℤ pos 1000) ⌝ }
+    ensures { λ r. ⌜ r .0 ≡ c .0 *ℤ pos 1000 ⌝ }
+{
+    Capacity(c.0 * 1000)
+}
+
+// The heat of a mass that grows warmer.
+fn stored(mass: Kilos, c: Capacity, rise: Rise) -> Microjoules
+    requires { ⌜ ProductFits (mass .0) (c .0) (rise .0) ⌝ }
+    ensures { λ r. ⌜ r .0 ≡ mass .0 *ℤ c .0 *ℤ rise .0 ⌝ }
+{
+    Microjoules(mass.0 * c.0 * rise.0)
+}
+
+// The specific heat of a thing at a temperature.
+fn specific_heat(stuff: Stuff, at: Degrees) -> Capacity
+    requires { ⌜ Heated (stuffOf stuff) (at .0) ⌝ }
+    ensures { λ r. ⌜ Exact 100000000 (r .0) (specificHeat (stuffOf stuff) (at .0)) ⌝ }
+{
+    let material = stuff.material;
+    if material.0 == 0 {
+        return given(stuff.c);
+    }
+    let i = row(material, at);
+    straight(TABLE_A2[i], at)
+}
+
+// m c (at − from), with c at the first of the two temperatures, in whole joules.
+pub fn sensible(mass: Kilos, stuff: Stuff, at: Degrees, from: Degrees) -> Joules
+    requires { ⌜ Warmed (mass .0) (stuffOf stuff) (at .0) (from .0) ⌝ }
+    ensures { λ r. ⌜ Figure joule 3600000000000 (r .0) (sensible paper (mass .0) (stuffOf stuff) (at .0) (from .0)) ⌝ }
+{
+    let c = specific_heat(stuff, at);
+    stored(mass, c, at.above(from)).joules()
+}

@@ -1,0 +1,78 @@
+-- The readings by section and stage, as the code keeps them, and what its steps ask.
+use Prim.Native.Nat.{ℕ, _≤_}
+use mathlib.Core.Path.{_≡_}
+use mathlib.Core.Bool.{true, cond}
+use mathlib.Core.List.{List, map}
+use lib.IntN.{ℤ, pos, _+ℤ_, _-ℤ_, _*ℤ_}
+use lib.ListN.{take, replicate}
+use lib.Signed.{_≤ℤ_}
+use mir.Syntax.{w64}
+use mir.Val.{SFits}
+use Rattle.sheet.specs.declared.Reading.{Reading}
+use Rattle.sheet.specs.declared.Sections.{Sections}
+use Rattle.sheet.specs.declared.Stages.{Stages}
+use Rattle.sheet.specs.Firing.{Stage, Section, Wall, Firing}
+use Rattle.sheet.specs.Shown.{section, laid, unread}
+use Rattle.lines.specs.Quantities.{surface, nearAir, minutes}
+use Rattle.lines.specs.Limits.{In, StageIn, SectionIn, Limits}
+use Rattle.formulas.specs.Rounding.{paper}
+use Rattle.formulas.specs.Formulas.{wallHeat}
+use Rattle.formulas.specs.Steps.{stagesOf}
+
+-- ---- steps
+pub record RiseIn (p : ℕ) (Δ : ℤ) : Type 0 where
+  pub place : p ≤ 3
+  pub low : pos 0 ≤ℤ Δ
+  pub high : Δ ≤ℤ pos 3200
+
+pub record FourthFits (T : ℤ) : Type 0 where
+  pub one : SFits w64 (pos 2730 +ℤ T)
+  pub two : SFits w64 ((pos 2730 +ℤ T) *ℤ (pos 2730 +ℤ T))
+  pub three : SFits w64 ((pos 2730 +ℤ T) *ℤ (pos 2730 +ℤ T) *ℤ (pos 2730 +ℤ T))
+  pub four : SFits w64 ((pos 2730 +ℤ T) *ℤ (pos 2730 +ℤ T) *ℤ (pos 2730 +ℤ T) *ℤ (pos 2730 +ℤ T))
+
+pub record HotIn (T T₀ : ℤ) : Type 0 where
+  pub surface : In surface T
+  pub air : In nearAir T₀
+
+pub record DifferenceFits (x y : ℤ) : Type 0 where
+  pub difference : SFits w64 (x -ℤ y)
+  pub all : SFits w64 (pos 454 *ℤ (x -ℤ y))
+
+pub record LostFits (flux area minutes : ℤ) : Type 0 where
+  pub one : SFits w64 (flux *ℤ area)
+  pub two : SFits w64 (flux *ℤ area *ℤ minutes)
+  pub all : SFits w64 (flux *ℤ area *ℤ minutes *ℤ pos 6)
+
+-- a reading within its limits
+pub record ReadingIn (x : Reading) : Type 0 where
+  pub surface : In surface (x .surface .0)
+  pub air : In nearAir (x .air .0)
+  pub warmer : x .air .0 ≤ℤ x .surface .0
+
+pub record WallIn (x : Reading) (s : Section) : Type 0 where
+  pub reading : ReadingIn x
+  pub section : SectionIn s
+
+pub record LostIn (x : Reading) (s : Section) (t : Stage) : Type 0 where
+  pub wall : WallIn x s
+  pub stage : StageIn t
+
+-- ---- cells
+-- a reading as a wall; where and when is known by the cell
+abbrev pub wallOf : Reading → Wall
+wallOf x = record { section = pos 0; stage = pos 0; surface = x .surface .0; air = x .air .0 }
+
+-- the heat of a cell: none where nothing was read
+abbrev pub cellHeat : Reading → Section → Stage → ℤ
+cellHeat x s t = cond (x .read) (wallHeat paper s t (wallOf x)) (pos 0)
+
+pub record CellIn (x : Reading) (s : Section) (t : Stage) : Type 0 where
+  pub lost : x .read ≡ true → LostIn x s t
+
+-- the firing that sections, stages and readings show
+pub record Seen (readings : List Reading) (x : Sections) (y : Stages) (f : Firing) : Type 0 where
+  pub sections : f .sections ≡ map section (take (x .count .0) (x .lines))
+  pub stages : f .stages ≡ stagesOf y
+  pub laid : readings ≡ laid (f .sections) (replicate 144 unread) (f .walls)
+  pub limits : Limits f

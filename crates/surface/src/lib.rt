@@ -1,0 +1,149 @@
+// The heat that leaves through the surface, reading by reading.
+ghost use mathlib.Core.Path.{_≡_};
+ghost use Prim.Native.Nat.{_^_, _≤_};
+ghost use lib.IntN.{ℤ, pos, natAbs, _+ℤ_, _-ℤ_, _*ℤ_};
+ghost use mir.Syntax.{w64};
+ghost use mir.Val.{SFits};
+ghost use Rattle.arith.specs.Nearest.{nearest};
+ghost use Rattle.arith.specs.Root.{root};
+ghost use Rattle.sheet.specs.Firing.{Wall, Firing};
+ghost use Rattle.sheet.specs.Shown.{stage as stageOf, section as sectionOf};
+ghost use Rattle.formulas.specs.Rounding.{paper, square};
+ghost use Rattle.formulas.specs.Formulas.{joule, placed, fourth, radiation, flux, wallHeat, x9};
+ghost use Rattle.formulas.specs.Figures.{Exact, Figure};
+ghost use Rattle.surface.specs.Cells.{FourthFits, DifferenceFits, LostFits, RiseIn, HotIn, WallIn, LostIn, cellHeat, CellIn, Seen};
+use formulas::rounding::Microjoules;
+use quantity::heat::Joules;
+use quantity::kiln::Area;
+use quantity::kiln::Minutes;
+use quantity::kiln::Place;
+use quantity::temperature::Degrees;
+use quantity::temperature::Rise;
+use sheet::Reading;
+use sheet::Section;
+use sheet::Sections;
+use sheet::Stage;
+use sheet::Stages;
+
+// A heat flux, in 1e-5 W/m².
+pub struct Flux(pub i64);
+
+// ((273 + T)/100)⁴, in 1e-12.
+pub struct Fourth(pub i64);
+
+// The second term of formula 25 before it is rounded, in 1e-14 W/m².
+pub struct RadiationExact(pub i64);
+
+// A of formula 25 in 0.01, by place.
+const FACTOR: [u64; 4] = [0, 326, 256, 210];
+
+impl RadiationExact {
+    // To the nearest 1e-5 W/m².
+    fn rounded(self) -> Flux
+        ensures { λ r. ⌜ r .0 ≡ nearest (self .0) 1000000000 ⌝ }
+    {
+        Flux(arith::nearest(self.0, 1_000_000_000))
+    }
+}
+
+// A Δ√Δ, cut down.
+fn cut_down(a: u64, rise: u64) -> u64
+    requires { ⌜ (a ≤ 326) × (rise ≤ 3200) ⌝ }
+    ensures { λ r. ⌜ r ≡ root (square a rise) ⌝ }
+{
+    arith::floor_root(1000 * (a * a) * (rise * rise * rise))
+}
+
+// The first term of formula 25.
+fn convection(place: Place, rise: Rise) -> Flux
+    requires { ⌜ RiseIn (place .0) (rise .0) ⌝ }
+    ensures { λ r. ⌜ Exact 1866132891 (r .0) (pos (root (square (placed (place .0)) (natAbs (rise .0))))) ⌝ }
+{
+    let at = place.0;
+    let size = rise.0 as u64;
+    Flux(cut_down(FACTOR[at], size) as i64)
+}
+
+// The fourth power of a temperature above the absolute zero.
+fn fourth_power(at: Degrees) -> Fourth
+    requires { ⌜ FourthFits (at .0) ⌝ }
+    ensures { λ r. ⌜ r .0 ≡ fourth (at .0) ⌝ }
+{
+    let k = 2730 + at.0;
+    Fourth(k * k * k * k)
+}
+
+// The second term of formula 25, exact.
+fn radiated(surface: Fourth, air: Fourth) -> RadiationExact
+    requires { ⌜ DifferenceFits (surface .0) (air .0) ⌝ }
+    ensures { λ r. ⌜ r .0 ≡ pos 454 *ℤ (surface .0 -ℤ air .0) ⌝ }
+{
+    RadiationExact(454 * (surface.0 - air.0))
+}
+
+// The second term of formula 25.
+fn radiation(surface: Degrees, air: Degrees) -> Flux
+    requires { ⌜ HotIn (surface .0) (air .0) ⌝ }
+    ensures { λ r. ⌜ ((w : Wall) → w .surface ≡ surface .0 → w .air ≡ air .0 → Figure (10 ^ 9) 470810622 (r .0) (radiation paper w)) ⌝ }
+{
+    radiated(fourth_power(surface), fourth_power(air)).rounded()
+}
+
+// Both terms together.
+fn both(first: Flux, second: Flux) -> Flux
+    requires { ⌜ SFits w64 (first .0 +ℤ second .0) ⌝ }
+    ensures { λ r. ⌜ r .0 ≡ first .0 +ℤ second .0 ⌝ }
+{
+    Flux(first.0 + second.0)
+}
+
+// Formula 25, as a product.
+fn flux_at(reading: Reading, section: Section) -> Flux
+    requires { ⌜ WallIn reading (sectionOf section) ⌝ }
+    ensures { λ r. ⌜ ((w : Wall) → w .surface ≡ reading .surface .0 → w .air ≡ reading .air .0 → Figure (10 ^ 9) 2336943513 (r .0) (flux paper (sectionOf section) w)) ⌝ }
+{
+    let first = convection(section.place, reading.surface.above(reading.air));
+    let second = radiation(reading.surface.degrees(), reading.air.degrees());
+    both(first, second)
+}
+
+// Formula 27 before it is rounded: 3.6 kJ per Wh, a sixtieth of it a minute.
+fn lost(flux: Flux, area: Area, minutes: Minutes) -> Microjoules
+    requires { ⌜ LostFits (flux .0) (area .0) (minutes .0) ⌝ }
+    ensures { λ r. ⌜ r .0 ≡ flux .0 *ℤ area .0 *ℤ minutes .0 *ℤ pos 6 ⌝ }
+{
+    Microjoules(flux.0 * area.0 * minutes.0 * 6)
+}
+
+// The heat that leaves through a section in a stage.
+fn wall_heat(reading: Reading, section: Section, stage: Stage) -> Joules
+    requires { ⌜ LostIn reading (sectionOf section) (stageOf stage) ⌝ }
+    ensures { λ r. ⌜ ((w : Wall) → w .surface ≡ reading .surface .0 → w .air ≡ reading .air .0 → Figure joule 807647678093 (r .0) (wallHeat paper (sectionOf section) (stageOf stage) w)) ⌝ }
+{
+    lost(flux_at(reading, section), section.area, stage.minutes).joules()
+}
+
+// The heat of a cell of the readings, where something was read.
+fn cell_heat(reading: Reading, section: Section, stage: Stage) -> Joules
+    requires { ⌜ CellIn reading (sectionOf section) (stageOf stage) ⌝ }
+    ensures { λ r. ⌜ Figure joule 807647678093 (r .0) (cellHeat reading (sectionOf section) (stageOf stage)) ⌝ }
+{
+    if reading.read {
+        return wall_heat(reading, section, stage);
+    }
+    Joules(0)
+}
+
+// The heat that leaves through the surface: every cell of the readings, by section and stage.
+pub fn x9(readings: [Reading; 144], sections: Sections, stages: Stages) -> Joules
+    requires { ⌜ ((f : Firing) × Seen readings sections stages f) ⌝ }
+    ensures { λ r. ⌜ ((f : Firing) → Seen readings sections stages f → Figure joule 116301265645392 (r .0) (x9 f paper)) ⌝ }
+{
+    let places = sections.lines;
+    let times = stages.lines;
+    let mut sum = Joules(0);
+    for k in 0..144 {
+        sum = sum.plus(cell_heat(readings[k], places[k / 12], times[k % 12]));
+    }
+    sum
+}
