@@ -44,7 +44,7 @@ unfolding dryFlue
 returns c =
     let s = c .before .before .before in
     let size = most (known (s .pre)) (raw 0 ⟨*⟩ each) {B = 30440520000000000} tt in
-    λ g b. rw (← b .dry .is, ← b .air .is) (rounded 100000 1 (lit< tt) (lit< tt) (exactly refl) size (lit< tt) (cc))
+    λ g b. rw (← b .dry .is, ← b .air .is) (rounded 100000 1 (lit< tt) (lit< tt) (exactly refl) size (lit< tt) (rw (c .rounded .ensures, c .before .dry-exact .ensures, c .before .before .dry-rate .ensures)))
 
 pub dry-flue-spec : {M : Type 1} → statement M
 dry-flue-spec = tie.close (tie.spec dry-rate-requires dry-exact-requires rounded-requires returns)

@@ -40,7 +40,7 @@ returns c =
     let rise = s .args .stage .flue .0 -ℤ s .args .t .0 in
     λ g b.
     let size = most (within (volume g b .size) ∷ limits (s .pre .burns .stage .flue) ∷ limits (s .pre .ambient) ∷ []) (raw 0 ⟨*⟩ num (pos 1384) ⟨*⟩ (raw 1 ⟨-⟩ raw 2)) {B = 5139820920960000000} tt in
-    rounded 1000000 (joule / 10 ^ 6) (lit< tt) (lit< tt) (finer (times (times (volume g b .is) (pos 1384)) rise) (joule / 10 ^ 11)) size (lit< tt) (cc)
+    rounded 1000000 (joule / 10 ^ 6) (lit< tt) (lit< tt) (finer (times (times (volume g b .is) (pos 1384)) rise) (joule / 10 ^ 11)) size (lit< tt) (rw (c .joules .ensures, c .before .dry-carried .ensures, c .before .before .before .above .ensures, c .before .before .before .before .degrees .ensures))
 
 pub dry-heat-spec : {M : Type 1} → statement M
 dry-heat-spec =

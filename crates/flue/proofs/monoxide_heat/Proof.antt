@@ -11,6 +11,15 @@ use Rattle.formulas.proofs.Sizes.{limits, within, most, fit}
 use Rattle.flue.proofs.monoxide_heat.Statement.{statement}
 use Rattle.flue.proofs.monoxide_heat.Tie as tie
 
+returns : tie.Need-returns
+unfolding monoxideHeat
+returns c =
+    let s = c .before .before .before in
+    let volume = c .before .before .dry-flue .ensures in
+    λ g b.
+    let size = most (within (volume g b .size) ∷ limits (s .pre .stage .co) ∷ []) (raw 0 ⟨*⟩ raw 1 ⟨*⟩ num (pos 12750)) {B = 3881166300000000000} tt in
+    rounded 1000000 (joule / 10 ^ 6) (lit< tt) (lit< tt) (finer (times (times (volume g b .is) (s .args .stage .co .0)) (pos 12750)) (joule / 10 ^ 11)) size (lit< tt) (rw (c .joules .ensures, c .before .unburnt .ensures))
+
 dry-flue-requires : tie.Need-dry-flue-requires
 dry-flue-requires c κs = search needs
 
@@ -22,15 +31,6 @@ unburnt-requires c κs =
 
 joules-requires : tie.Need-joules-requires
 joules-requires c κs = search needs
-
-returns : tie.Need-returns
-unfolding monoxideHeat
-returns c =
-    let s = c .before .before .before in
-    let volume = c .before .before .dry-flue .ensures in
-    λ g b.
-    let size = most (within (volume g b .size) ∷ limits (s .pre .stage .co) ∷ []) (raw 0 ⟨*⟩ raw 1 ⟨*⟩ num (pos 12750)) {B = 3881166300000000000} tt in
-    rounded 1000000 (joule / 10 ^ 6) (lit< tt) (lit< tt) (finer (times (times (volume g b .is) (s .args .stage .co .0)) (pos 12750)) (joule / 10 ^ 11)) size (lit< tt) (cc)
 
 pub monoxide-heat-spec : {M : Type 1} → statement M
 monoxide-heat-spec = tie.close (tie.spec dry-flue-requires unburnt-requires joules-requires returns)

@@ -28,7 +28,7 @@ returns c =
     let rate = c .before .before .vapour-rate .ensures in
     λ g b.
     let size = most (within (rate g b .size) ∷ limits (s .pre .burns .stage .gas) ∷ []) (raw 0 ⟨*⟩ raw 1) {B = 2803842428600000} tt in
-    rounded 10000 (56 * 10 ^ 7) (lit< tt) (lit< tt) (times (rate g b .is) (s .args .stage .gas .0)) size (lit< tt) (cc)
+    rounded 10000 (56 * 10 ^ 7) (lit< tt) (lit< tt) (times (rate g b .is) (s .args .stage .gas .0)) size (lit< tt) (rw (c .rounded .ensures, c .before .vapour-exact .ensures))
 
 pub vapour-spec : {M : Type 1} → statement M
 vapour-spec = tie.close (tie.spec vapour-rate-requires vapour-exact-requires rounded-requires returns)

@@ -40,7 +40,7 @@ returns c =
     let rise = s .args .stage .flue .0 -ℤ s .args .t .0 in
     λ g b.
     let size = most (within (mass g b .size) ∷ limits (s .pre .moist .burns .stage .flue) ∷ limits (s .pre .ambient) ∷ []) (raw 0 ⟨*⟩ num (pos 193) ⟨*⟩ (raw 1 ⟨-⟩ raw 2)) {B = 660192738238156000} tt in
-    rounded 1000000 (joule / 10 ^ 6) (lit< tt) (lit< tt) (finer (times (times (mass g b .is) (pos 193)) rise) (joule / (56 * 10 ^ 17))) size (lit< tt) (cc)
+    rounded 1000000 (joule / 10 ^ 6) (lit< tt) (lit< tt) (finer (times (times (mass g b .is) (pos 193)) rise) (joule / (56 * 10 ^ 17))) size (lit< tt) (rw (c .joules .ensures, c .before .vapour-carried .ensures, c .before .before .before .above .ensures, c .before .before .before .before .degrees .ensures))
 
 pub vapour-heat-spec : {M : Type 1} → statement M
 vapour-heat-spec =

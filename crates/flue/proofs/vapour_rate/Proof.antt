@@ -43,7 +43,7 @@ unfolding vapourRate
 returns c =
     let s = c .before .before in
     let size = most (known (s .pre)) all {B = 7850758800000000000} tt in
-    λ g b. rw (← b .air .is, ← b .vapour .is) (rounded 560000000 1 (lit< tt) (lit< tt) (exactly refl) size (lit< tt) (cc))
+    λ g b. rw (← b .air .is, ← b .vapour .is) (rounded 560000000 1 (lit< tt) (lit< tt) (exactly refl) size (lit< tt) (rw (c .rounded .ensures, c .before .rate-exact .ensures)))
 
 pub vapour-rate-spec : {M : Type 1} → statement M
 vapour-rate-spec = tie.close (tie.spec rate-exact-requires rounded-requires returns)

@@ -46,6 +46,13 @@ mul-flue-heat c = omega arith
 array-copy-out-flue-heat : tie.Need-array-copy-out-flue-heat Inv-loop μ-loop
 array-copy-out-flue-heat c = omega arith
 
+loop-again : tie.Need-loop-again Inv-loop μ-loop
+loop-again c =
+    let s = c .before .before .before .before .before .before .before in
+    let l = c .before .before .before .before .loop in
+    let h : l .i < length (lines s) = omega (arith, long s) in
+    (omega arith, λ g b. rw (c .plus .ensures) (summed (flueHeat paper g (s .args .moisture .0) (s .args .t .0)) stage (lines s) blankStage h (l .inv .1 g b) (c .before .flue-heat .ensures g b)))
+
 flue-heat-requires : tie.Need-flue-heat-requires Inv-loop μ-loop
 flue-heat-requires c κs =
     let s = c .before .before .before .before .before in
@@ -63,13 +70,6 @@ add-i c = search needs
 
 loop-less : tie.Need-loop-less Inv-loop μ-loop
 loop-less c = search needs
-
-loop-again : tie.Need-loop-again Inv-loop μ-loop
-loop-again c =
-    let s = c .before .before .before .before .before .before .before in
-    let l = c .before .before .before .before .loop in
-    let h : l .i < length (lines s) = omega (arith, long s) in
-    (omega arith, λ g b. rw (c .plus .ensures) (summed (flueHeat paper g (s .args .moisture .0) (s .args .t .0)) stage (lines s) blankStage h (l .inv .1 g b) (c .before .flue-heat .ensures g b)))
 
 returns : tie.Need-returns Inv-loop μ-loop
 unfolding x7

@@ -40,7 +40,7 @@ unfolding q2
 returns c =
     let s = c .before .before .before .before in
     let size = most (known (s .pre)) (raw 0 ⟨*⟩ mixed ⟨*⟩ (raw 3 ⟨-⟩ raw 4)) {B = 7678080000000000000} tt in
-    λ f e₁ w e₂ e₃. rw (e₁, e₂, e₃, ← w .heat (s .args .at .0)) (rounded 1000000000 (joule / 10 ^ 9) (lit< tt) (lit< tt) units size (lit< tt) (cc))
+    λ f e₁ w e₂ e₃. rw (e₁, e₂, e₃, ← w .heat (s .args .at .0)) (rounded 1000000000 (joule / 10 ^ 9) (lit< tt) (lit< tt) units size (lit< tt) (rw (c .joules .ensures, c .before .brought .ensures, c .before .before .above .ensures, c .before .before .before .mixed-heat .ensures)))
 
 pub q2-spec : {M : Type 1} → statement M
 q2-spec = tie.close (tie.spec mixed-heat-requires above-requires brought-requires joules-requires returns)

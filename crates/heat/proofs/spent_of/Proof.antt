@@ -27,6 +27,19 @@ five = raw 0 ⟨+⟩ raw 1 ⟨+⟩ raw 2 ⟨+⟩ raw 3 ⟨+⟩ raw 4
 abbrev three : Mx
 three = raw 5 ⟨+⟩ raw 6 ⟨+⟩ raw 7
 
+returns : tie.Need-returns
+unfolding spent
+returns c =
+    λ f s g.
+    let r = c .plus .result .0 in
+    let order = ring (x1 f paper ∷ x2 f paper ∷ x3 f paper ∷ x5 f paper ∷ x10 f paper ∷ x7 f paper ∷ x8 f paper ∷ x9 f paper ∷ []) (v 0 ⊕ v 1 ⊕ v 2 ⊕ v 3 ⊕ v 4 ⊕ (v 5 ⊕ v 6 ⊕ v 7)) (v 0 ⊕ v 1 ⊕ v 2 ⊕ v 3 ⊕ v 5 ⊕ v 6 ⊕ v 7 ⊕ v 4) tt in
+    subst (λ (x : ℤ). Figure joule 467553145155780 r x) order
+    (rw (c .plus .ensures, c .before .before .five .ensures, c .before .three .ensures)
+    (record {
+      is = plus (plus (plus (plus (plus (s .x1 .is) (s .x2 .is)) (s .x3 .is)) (s .x5 .is)) (s .x10 .is)) (plus (plus (g .x7 .is) (g .x8 .is)) (g .x9 .is));
+      size = most (known s g) (five ⟨+⟩ three) tt;
+    }))
+
 five-requires : tie.Need-five-requires
 five-requires c κs =
     let p = c .pre .1 in
@@ -43,19 +56,6 @@ plus-requires : tie.Need-plus-requires
 plus-requires c κs =
     let p = c .before .before .pre .1 in
     rw (c .before .five .ensures, c .three .ensures) (fit (known (p .0) (p .1)) (five ⟨+⟩ three) tt)
-
-returns : tie.Need-returns
-unfolding spent
-returns c =
-    λ f s g.
-    let r = c .plus .result .0 in
-    let order = ring (x1 f paper ∷ x2 f paper ∷ x3 f paper ∷ x5 f paper ∷ x10 f paper ∷ x7 f paper ∷ x8 f paper ∷ x9 f paper ∷ []) (v 0 ⊕ v 1 ⊕ v 2 ⊕ v 3 ⊕ v 4 ⊕ (v 5 ⊕ v 6 ⊕ v 7)) (v 0 ⊕ v 1 ⊕ v 2 ⊕ v 3 ⊕ v 5 ⊕ v 6 ⊕ v 7 ⊕ v 4) tt in
-    subst (λ (x : ℤ). Figure joule 467553145155780 r x) order
-    (rw (c .plus .ensures, c .before .before .five .ensures, c .before .three .ensures)
-    (record {
-      is = plus (plus (plus (plus (plus (s .x1 .is) (s .x2 .is)) (s .x3 .is)) (s .x5 .is)) (s .x10 .is)) (plus (plus (g .x7 .is) (g .x8 .is)) (g .x9 .is));
-      size = most (known s g) (five ⟨+⟩ three) tt;
-    }))
 
 pub spent-of-spec : {M : Type 1} → statement M
 spent-of-spec = tie.close (tie.spec five-requires three-requires plus-requires returns)

@@ -45,7 +45,7 @@ returns : tie.Need-returns
 unfolding radiation
 returns c =
     let size = most (known (c .before .before .before .before .pre)) (num (pos 454) ⟨*⟩ (power 0 ⟨-⟩ power 1)) {B = 470810621926400000} tt in
-    λ w e₁ e₂. rw (e₁, e₂) (rounded 1000000000 1 (lit< tt) (lit< tt) (exactly refl) size (lit< tt) (cc))
+    λ w e₁ e₂. rw (e₁, e₂) (rounded 1000000000 1 (lit< tt) (lit< tt) (exactly refl) size (lit< tt) (rw (c .rounded .ensures, c .before .radiated .ensures, c .before .before .fourth-power2 .ensures, c .before .before .before .fourth-power .ensures)))
 
 pub radiation-spec : {M : Type 1} → statement M
 radiation-spec =

@@ -43,7 +43,7 @@ returns c =
     let size = most (within (at .size) ∷ limits (s .pre .wall .section .area) ∷ limits (s .pre .stage .minutes) ∷ []) (raw 0 ⟨*⟩ raw 1 ⟨*⟩ raw 2 ⟨*⟩ num (pos 6)) {B = 807647678092800000} tt in
     let ten = ring (flux .result .0 ∷ a ∷ m ∷ []) (v 0 ⊗ v 1 ⊗ v 2 ⊗ # 6 ⊗ # 10) (v 0 ⊗ v 1 ⊗ v 2 ⊗ # 60) tt in
     let sixty = finer (times (times (times (at .is) a) m) (pos 60)) (joule / 10 ^ 16) in
-    rounded 1000000 (joule / 10 ^ 6) (lit< tt) (lit< tt) (coarser 10 (same ten sixty)) size (lit< tt) (cc)
+    rounded 1000000 (joule / 10 ^ 6) (lit< tt) (lit< tt) (coarser 10 (same ten sixty)) size (lit< tt) (rw (c .joules .ensures, c .before .lost .ensures))
 
 pub wall-heat-spec : {M : Type 1} → statement M
 wall-heat-spec = tie.close (tie.spec flux-at-requires lost-requires joules-requires returns)

@@ -32,7 +32,7 @@ returns c =
     let h = c .before .before .before .specific-heat .ensures in
     let p = s .pre in
     let ks = within (p .mass) ∷ within (rw (h .is) at (h .size)) ∷ within (p .at) ∷ within (p .from) ∷ [] in
-    rounded 1000000 (joule / 10 ^ 6) (lit< tt) (lit< tt) units (most ks (raw 0 ⟨*⟩ raw 1 ⟨*⟩ (raw 2 ⟨-⟩ raw 3)) {B = 3600000000000000000} tt) (lit< tt) (cc)
+    rounded 1000000 (joule / 10 ^ 6) (lit< tt) (lit< tt) units (most ks (raw 0 ⟨*⟩ raw 1 ⟨*⟩ (raw 2 ⟨-⟩ raw 3)) {B = 3600000000000000000} tt) (lit< tt) (rw (c .joules .ensures, c .before .stored .ensures, c .before .before .above .ensures, h .is))
 
 pub sensible-spec : {M : Type 1} → statement M
 sensible-spec =

@@ -55,7 +55,7 @@ returns c =
     let p = c .before .before .before .before .pre in
     let ks = limits (p .water .adsorbed) ∷ limits (p .water .crystal) ∷ limits (p .entry) ∷ [] in
     let size = most ks (raw 0 ⟨*⟩ boil 2 25 ⟨+⟩ raw 1 ⟨*⟩ boil 2 450) {B = 8775250000000} tt in
-    λ f e₁ e₂. rw (e₁, e₂) (rounded 10 (joule / 10) (lit< tt) (lit< tt) units size (lit< tt) (cc))
+    λ f e₁ e₂. rw (e₁, e₂) (rounded 10 (joule / 10) (lit< tt) (lit< tt) units size (lit< tt) (rw (c .joules .ensures, c .before .two-waters .ensures, c .before .before .boiled2 .ensures, c .before .before .before .boiled .ensures)))
 
 pub water-heat-spec : {M : Type 1} → statement M
 water-heat-spec = tie.close (tie.spec boiled-requires boiled-requires-2 two-waters-requires joules-requires returns)

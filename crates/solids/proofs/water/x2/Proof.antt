@@ -11,6 +11,14 @@ use Rattle.formulas.proofs.Sizes.{limits, most, fit}
 use Rattle.solids.proofs.water.x2.Statement.{statement}
 use Rattle.solids.proofs.water.x2.Tie as tie
 
+returns : tie.Need-returns
+unfolding x2
+returns c =
+    let p = c .before .before .before .before .pre in
+    let ks = limits (p .water .adsorbed) ∷ limits (p .water .crystal) ∷ limits (p .water .flue) ∷ limits (p .ambient) ∷ [] in
+    let size = most ks ((raw 0 ⟨+⟩ raw 1) ⟨*⟩ (num (pos 2490000) ⟨+⟩ num (pos 193) ⟨*⟩ (raw 2 ⟨-⟩ raw 3))) {B = 9689200000000} tt in
+    λ f e₁ e₂. rw (e₁, e₂) (rounded 10 (joule / 10) (lit< tt) (lit< tt) units size (lit< tt) (rw (c .joules .ensures, c .before .steam .ensures, c .before .before .above .ensures, c .before .before .before .degrees .ensures)))
+
 degrees-requires : tie.Need-degrees-requires
 degrees-requires c κs = search needs
 
@@ -33,14 +41,6 @@ steam-requires c κs =
 
 joules-requires : tie.Need-joules-requires
 joules-requires c κs = search needs
-
-returns : tie.Need-returns
-unfolding x2
-returns c =
-    let p = c .before .before .before .before .pre in
-    let ks = limits (p .water .adsorbed) ∷ limits (p .water .crystal) ∷ limits (p .water .flue) ∷ limits (p .ambient) ∷ [] in
-    let size = most ks ((raw 0 ⟨+⟩ raw 1) ⟨*⟩ (num (pos 2490000) ⟨+⟩ num (pos 193) ⟨*⟩ (raw 2 ⟨-⟩ raw 3))) {B = 9689200000000} tt in
-    λ f e₁ e₂. rw (e₁, e₂) (rounded 10 (joule / 10) (lit< tt) (lit< tt) units size (lit< tt) (cc))
 
 pub x2-spec : {M : Type 1} → statement M
 x2-spec = tie.close (tie.spec degrees-requires above-requires steam-requires joules-requires returns)
