@@ -10,6 +10,25 @@ use Rattle.heat.proofs.Kept.{own, field}
 use Rattle.heat.proofs.income_of.Statement.{statement}
 use Rattle.heat.proofs.income_of.Tie as tie
 
+returns : tie.Need-returns
+unfolding income
+returns c =
+    λ f k.
+    let t = field k (λ g. g .ambient) ∙ sym (c .before .before .before .before .before .before .before .degrees .ensures) in
+    let fuel = c .before .before .before .before .before .before .fuel-heat .ensures f k in
+    let q3 = c .before .before .before .q3 .ensures f (field k (λ g. g .setters)) t in
+    let q5 = c .before .before .q5 .ensures f (field k (λ g. g .ware)) t in
+    let q8 = c .before .q8 .ensures f (field k (λ g. g .parts)) t in
+    let ks = within (fuel .0 .size) ∷ within (fuel .1 .size) ∷ within (q3 .size) ∷ within (q5 .size) ∷ within (q8 .size) ∷ [] in
+    record {
+      q1 = fuel .0;
+      q2 = fuel .1;
+      q3 = q3;
+      q5 = q5;
+      q8 = q8;
+      total = rw (c .five .ensures) (record { is = plus (plus (plus (plus (fuel .0 .is) (fuel .1 .is)) (q3 .is)) (q5 .is)) (q8 .is); size = most ks (raw 0 ⟨+⟩ raw 1 ⟨+⟩ raw 2 ⟨+⟩ raw 3 ⟨+⟩ raw 4) tt });
+    }
+
 degrees-requires : tie.Need-degrees-requires
 degrees-requires c κs = search needs
 
@@ -44,25 +63,6 @@ five-requires c κs =
       three = fit ks (raw 0 ⟨+⟩ raw 1 ⟨+⟩ raw 2) tt;
       four = fit ks (raw 0 ⟨+⟩ raw 1 ⟨+⟩ raw 2 ⟨+⟩ raw 3) tt;
       five = fit ks (raw 0 ⟨+⟩ raw 1 ⟨+⟩ raw 2 ⟨+⟩ raw 3 ⟨+⟩ raw 4) tt;
-    }
-
-returns : tie.Need-returns
-unfolding income
-returns c =
-    λ f k.
-    let t = field k (λ g. g .ambient) ∙ sym (c .before .before .before .before .before .before .before .degrees .ensures) in
-    let fuel = c .before .before .before .before .before .before .fuel-heat .ensures f k in
-    let q3 = c .before .before .before .q3 .ensures f (field k (λ g. g .setters)) t in
-    let q5 = c .before .before .q5 .ensures f (field k (λ g. g .ware)) t in
-    let q8 = c .before .q8 .ensures f (field k (λ g. g .parts)) t in
-    let ks = within (fuel .0 .size) ∷ within (fuel .1 .size) ∷ within (q3 .size) ∷ within (q5 .size) ∷ within (q8 .size) ∷ [] in
-    record {
-      q1 = fuel .0;
-      q2 = fuel .1;
-      q3 = q3;
-      q5 = q5;
-      q8 = q8;
-      total = rw (c .five .ensures) (record { is = plus (plus (plus (plus (fuel .0 .is) (fuel .1 .is)) (q3 .is)) (q5 .is)) (q8 .is); size = most ks (raw 0 ⟨+⟩ raw 1 ⟨+⟩ raw 2 ⟨+⟩ raw 3 ⟨+⟩ raw 4) tt });
     }
 
 pub income-of-spec : {M : Type 1} → statement M
