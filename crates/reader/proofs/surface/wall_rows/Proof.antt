@@ -94,28 +94,6 @@ add-cell c =
     let k = c .before .before .before .before .before .wall-line .ensures .most in
     omega arith
 
-mul-readings : tie.Need-mul-readings Inv-loop μ-loop
-mul-readings c =
-    let b = c .before .before in
-    let j = b .before .before .before .before .section-place in
-    let at = b .before .before .before .before .before .before .before .before .before .before in
-    let a = at .before .before .before .args in
-    let m = place-most (a .sections) (a .count) (j .result) _ (at .loop .inv .1) (at .loop .inv .2) (j .ensures) in
-    let k = b .before .before .before .before .before .before .before .before .wall-line .ensures .most in
-    omega arith
-
-array-set-from-readings : tie.Need-array-set-from-readings Inv-loop μ-loop
-array-set-from-readings c =
-    let b = c .before .before in
-    let l = b .before .before .before .before .before .before .before .before .wall-line in
-    let j = b .before .before .before .before .section-place in
-    let at = b .before .before .before .before .before .before .before .before .before .before in
-    let a = at .before .before .before .args in
-    let f = found (a .sections) (a .count) (a .stages) (at .loop .readings) (l .result) (at .loop .p .line) (j .result) (b .before .before .is-read .result) (b .wall-place .result) (at .loop .inv .2) (j .ensures) (b .before .before .is-read .ensures) (b .wall-place .ensures) in
-    let k : j .result < a .count = found-below (at .loop .inv .2) f (c .before .if1 .taken) in
-    let m = l .ensures .most in
-    omega (arith, at .loop .inv .1)
-
 loop-again : tie.Need-loop-again Inv-loop μ-loop
 loop-again c =
     let b = c .before in
@@ -141,6 +119,28 @@ loop-again c =
       rw (f .after) (record { short = at .inv .4 .short; fair = settled-fair (at .p) (l .result) r (l .ensures) }),
       λ seen e g h. rw (f .after) (next (a .s .now) S (a .stages) few seen e g h (a .start) (at .p) (l .result) (at .i) (at .readings) (c .if1 .readings) (at .inv .5 seen e g h) (l .ensures) (stored .0)),
     )
+
+mul-readings : tie.Need-mul-readings Inv-loop μ-loop
+mul-readings c =
+    let b = c .before .before in
+    let j = b .before .before .before .before .section-place in
+    let at = b .before .before .before .before .before .before .before .before .before .before in
+    let a = at .before .before .before .args in
+    let m = place-most (a .sections) (a .count) (j .result) _ (at .loop .inv .1) (at .loop .inv .2) (j .ensures) in
+    let k = b .before .before .before .before .before .before .before .before .wall-line .ensures .most in
+    omega arith
+
+array-set-from-readings : tie.Need-array-set-from-readings Inv-loop μ-loop
+array-set-from-readings c =
+    let b = c .before .before in
+    let l = b .before .before .before .before .before .before .before .before .wall-line in
+    let j = b .before .before .before .before .section-place in
+    let at = b .before .before .before .before .before .before .before .before .before .before in
+    let a = at .before .before .before .args in
+    let f = found (a .sections) (a .count) (a .stages) (at .loop .readings) (l .result) (at .loop .p .line) (j .result) (b .before .before .is-read .result) (b .wall-place .result) (at .loop .inv .2) (j .ensures) (b .before .before .is-read .ensures) (b .wall-place .ensures) in
+    let k : j .result < a .count = found-below (at .loop .inv .2) f (c .before .if1 .taken) in
+    let m = l .ensures .most in
+    omega (arith, at .loop .inv .1)
 
 returns : tie.Need-returns Inv-loop μ-loop
 returns c =
