@@ -26,6 +26,7 @@ use Rattle.lines.proofs.Limits.{limits}
 use Rattle.lines.proofs.Document01.{firing-kept}
 use Rattle.formulas.specs.Rounding.{Rounding, paper}
 use Rattle.formulas.specs.Formulas.{joule, sum, sensible, totalGas, q1, q2, q3, q5, q8, income, x1, x2, x3, x5, x10, dryFlue, vapourRate, vapour, dryHeat, vapourHeat, flueHeat, monoxideHeat, x7, x8, noStage, numbered, sectionOf, stageOf, convection, radiation, flux, wallHeat, x9, spent, x11, waterHeat, useful, withset}
+use Rattle.formulas.proofs.Sums.{sum-of}
 use Rattle.formulas.specs.Report.{number, heat, share, lines, printed}
 use Rattle.distance.specs.Demand.{Stand, cutDown, oneMore, standIn, Enclosed, Choice, against, surface, thousand, allowed, leeway, Within, Near, Demand3}
 use Rattle.distance.proofs.Off.{Off, Size, same, one-more, _⊞_, _⊟_, _⊠_, times, per, per-both, rounded, settled, summed, records}
@@ -39,11 +40,6 @@ stand-off {w} cutDown n = record { off = omega (arith, same {w = w} {x = pos (ro
 stand-off oneMore n = one-more
 
 -- ---- THE LIMITS, as the formulas meet them. The gas of all stages
-sum-of : {A : Type 0} (g : A → ℤ) (l : List A) → sumOf (map g l) ≡ sum g l
-unfolding sum
-sum-of g [] = refl
-sum-of g (a ∷ l) = ap (λ (z : ℤ). g a +ℤ z) (sum-of g l)
-
 gas-in : {f : Firing} → Limits f → In gasTotal (totalGas (f .stages))
 gas-in {f} h = subst (In gasTotal) (sum-of (λ s. s .gas) (f .stages)) (h .total)
 

@@ -1,6 +1,6 @@
 -- Sums over the first lines of an array, one line more at a time. Assumes nothing.
 use Prim.Native.Nat.{ℕ, zero, suc, _+_, _*_, _≤_, _<_, min}
-use mathlib.Core.Path.{_≡_, sym, ap, _∙_, subst}
+use mathlib.Core.Path.{_≡_, refl, sym, ap, _∙_, subst}
 use mathlib.Core.List.{List, [], _∷_, map}
 use native.Mathlib.Nat.{le-trans, mul-le-mul-right, lt-of-le-of-lt, le-of-suc-le-suc, not-suc-le-zero}
 use native.Mathlib.Decide.{decLe}
@@ -15,6 +15,7 @@ use mir.Val.{SFits}
 use Rattle.arith.proofs.Ring.{v, #, _⊕_, _⊗_, ring}
 use Rattle.arith.proofs.Order.{bound-add, sfits-abs}
 use Rattle.sheet.specs.declared.Stage.{Stage as Stageˢ}
+use Rattle.lines.specs.Document01.{sumOf}
 use Rattle.lines.specs.Rules.{Every}
 use Rattle.formulas.specs.Formulas.{sum}
 use Rattle.formulas.specs.Figures.{Is, Figure}
@@ -32,6 +33,12 @@ module _ {A B : Type 0} (f : B → ℤ) (g : A → B) where
   next (a ∷ l) (suc i) d h =
       ap (λ (z : ℤ). f (g a) +ℤ z) (next l i d (le-of-suc-le-suc h))
       ∙ ring (f (g a) ∷ first l i ∷ f (g (getD l i d)) ∷ []) (v 0 ⊕ (v 1 ⊕ v 2)) (v 0 ⊕ v 1 ⊕ v 2) tt
+
+-- the sum of the sheet's rules is the sum of the formulas
+pub sum-of : {A : Type 0} (g : A → ℤ) (l : List A) → sumOf (map g l) ≡ sum g l
+unfolding sum
+sum-of g [] = refl
+sum-of g (a ∷ l) = ap (λ (z : ℤ). g a +ℤ z) (sum-of g l)
 
 -- what holds of each of the first n lines
 pub each : {A B : Type 0} (P : B → Type 0) (g : A → B) (l : List A) (n i : ℕ) (d : A) → Every P (map g (take n l)) → i < n → i < length l → P (g (getD l i d))

@@ -1,15 +1,12 @@
 -- What a sheet that is kept gives to the formulas. Assumes nothing.
 use Prim.Native.Nat.{ℕ}
-use mathlib.Core.Path.{_≡_, refl, ap, subst}
-use mathlib.Core.List.{List, [], _∷_, map}
-use lib.IntN.{ℤ, _+ℤ_}
+use mathlib.Core.Path.{_≡_, ap, subst}
+use lib.IntN.{ℤ}
 use lib.Signed.{ltZ-yes}
 use Rattle.sheet.specs.declared.Sheet.{Sheet}
 use Rattle.sheet.specs.Firing.{Firing}
 use Rattle.sheet.specs.Shown.{firing}
-use Rattle.lines.specs.Document01.{sumOf}
 use Rattle.lines.specs.Limits.{Limits}
-use Rattle.formulas.specs.Formulas.{sum}
 use Rattle.formulas.specs.Rounding.{Rounding}
 use Rattle.heat.specs.Balance.{Kept, Heat}
 use Rattle.formulas.proofs.Units.{only}
@@ -21,11 +18,6 @@ own k = subst Limits (k .shows .lines) (k .limits)
 -- a field of the firing is that of the struct
 pub field : {A : Type 0} {x : Sheet} {f : Firing} → Kept x f → (g : Firing → A) → g f ≡ g (firing x (f .walls))
 field k g = ap g (k .shows .lines)
-
-pub sum-of : {A : Type 0} (g : A → ℤ) (l : List A) → sumOf (map g l) ≡ sum g l
-unfolding sum
-sum-of g [] = refl
-sum-of g (a ∷ l) = ap (λ (z : ℤ). g a +ℤ z) (sum-of g l)
 
 -- no second number of joules is a heat of the firing
 pub one-answer : (q : Firing → Rounding → ℤ) (f : Firing) {a b : ℕ} {m n : ℤ} → Heat q f a m → Heat q f b n → m ≡ n

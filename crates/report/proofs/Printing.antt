@@ -23,11 +23,11 @@ use Rattle.formulas.specs.Rounding.{Rounding, paper}
 use Rattle.formulas.specs.Formulas.{joule, sum, totalGas, q1}
 use Rattle.formulas.specs.Report.{printed, heat, share, number as number′}
 use Rattle.heat.specs.declared.Heats.{Heats}
-use Rattle.heat.specs.Figures.{Is, Figure}
+use Rattle.formulas.specs.Figures.{Is, Figure}
 use Rattle.heat.specs.Balance.{Heat}
-use Rattle.heat.proofs.Units.{units, only}
-use Rattle.heat.proofs.Kept.{sum-of}
-use Rattle.heat.proofs.Sizes.{within, fit}
+use Rattle.formulas.proofs.Units.{units, only}
+use Rattle.formulas.proofs.Sums.{sum-of}
+use Rattle.formulas.proofs.Sizes.{within, fit}
 use Rattle.report.specs.Figures.{Divides, Found}
 
 -- the figures one by one

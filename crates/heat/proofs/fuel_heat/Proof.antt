@@ -7,7 +7,8 @@ use Rattle.lines.specs.Limits.{In}
 use Rattle.formulas.specs.Formulas.{totalGas}
 use Rattle.fuel.specs.Mixture.{Warmed}
 use Rattle.formulas.specs.Steps.{stagesOf}
-use Rattle.heat.proofs.Kept.{own, field, sum-of}
+use Rattle.heat.proofs.Kept.{own, field}
+use Rattle.formulas.proofs.Sums.{sum-of}
 use Rattle.heat.proofs.fuel_heat.Statement.{statement}
 use Rattle.heat.proofs.fuel_heat.Tie as tie
 
