@@ -1,13 +1,13 @@
 -- Demand 3: the proof of a heat follows its formula, and how far the heat is off is computed along the way. What is allowed is asked once, line
 -- by line, at the end; the nearest to it is x11, 323.5 J of 350. Assumes nothing.
 use Prim.Native.Nat.{ℕ, zero, suc, _+_, _*_, _/_, _^_, _-_, _≤_, _<_}
-use mathlib.Core.Path.{_≡_, refl, ap, subst}
+use mathlib.Core.Path.{_≡_, ap, subst}
 use mathlib.Core.Bool.{Bool, true, false, cond}
-use mathlib.Core.List.{List, [], _∷_, map}
+use mathlib.Core.List.{List, [], _∷_}
 use native.Mathlib.Nat.{le-trans, mul-le-mul, mul-le-mul-left, mul-le-mul-right}
 use native.Mathlib.Omega.{arith}
 use lib.Dec.{T, leb, leb→le, lit<, lit≤}
-use lib.IntN.{ℤ, pos, natAbs, _+ℤ_, _-ℤ_, _*ℤ_}
+use lib.IntN.{ℤ, pos, natAbs, _-ℤ_, _*ℤ_}
 use lib.ListN.{getD}
 use lib.Signed.{_≤ℤ_, ≤ℤ-refl, leZ-yes}
 use Rattle.arith.specs.Nearest.{nearest}
@@ -18,14 +18,13 @@ use Rattle.arith.proofs.RootLaws.{root-is}
 use Rattle.sheet.specs.Firing.{Stage, Section, Firing}
 use Rattle.sheet.specs.Shown.{same as alike}
 use Rattle.lines.specs.Quantities.{product, ambient, heating, flue, monoxide, gasTotal}
-use Rattle.lines.specs.Document01.{sumOf}
 use Rattle.lines.specs.Rules.{Every}
 use Rattle.lines.specs.Rows.{firingOf}
 use Rattle.lines.specs.Limits.{In, StageIn, SectionIn, Limits}
 use Rattle.lines.proofs.Limits.{limits}
 use Rattle.lines.proofs.Document01.{firing-kept}
 use Rattle.formulas.specs.Rounding.{Rounding, paper}
-use Rattle.formulas.specs.Formulas.{joule, sum, sensible, totalGas, q1, q2, q3, q5, q8, income, x1, x2, x3, x5, x10, dryFlue, vapourRate, vapour, dryHeat, vapourHeat, flueHeat, monoxideHeat, x7, x8, noStage, numbered, sectionOf, stageOf, convection, radiation, flux, wallHeat, x9, spent, x11, waterHeat, useful, withset}
+use Rattle.formulas.specs.Formulas.{joule, sensible, totalGas, q1, q2, q3, q5, q8, income, x1, x2, x3, x5, x10, dryFlue, vapourRate, vapour, dryHeat, vapourHeat, flueHeat, monoxideHeat, x7, x8, noStage, numbered, sectionOf, stageOf, convection, radiation, flux, wallHeat, x9, spent, x11, waterHeat, useful, withset}
 use Rattle.formulas.proofs.Sums.{sum-of}
 use Rattle.formulas.specs.Report.{number, heat, share, lines, printed}
 use Rattle.distance.specs.Demand.{Stand, cutDown, oneMore, standIn, Enclosed, Choice, against, surface, thousand, allowed, leeway, Within, Near, Demand3}

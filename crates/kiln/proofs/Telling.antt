@@ -1,12 +1,11 @@
 -- What the program prints, by the answer where there is room for any report. Assumes nothing.
 use Prim.Native.Nat.{ℕ, _≤_, _<_}
-use mathlib.Core.Path.{_≡_, refl, sym, ap, _∙_, subst}
+use mathlib.Core.Path.{_≡_, refl, sym, ap, _∙_}
 use mathlib.Core.List.{List}
 use native.Mathlib.Nat.{le-trans, zero-add}
 use native.Mathlib.Omega.{arith}
 use lib.ListN.{length}
 use Rattle.text.specs.Writing.{over, Written}
-use Rattle.sheet.specs.Refusals.{number}
 use Rattle.lines.specs.Reader as lines
 use Rattle.lines.specs.Reader.{Sheet, Refused, Good, readOf}
 use Rattle.lines.specs.Document01.{document01}

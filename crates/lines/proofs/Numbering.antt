@@ -1,7 +1,7 @@
 -- What a refusal says: it has a number of document 01, never 0, and its line is within the sheet or the one behind its last, since each
 -- line that is read has a byte. Assumes nothing.
 use Prim.Native.Nat.{ℕ, zero, suc, _+_, _≤_, _<_}
-use mathlib.Core.Path.{_≡_, refl, sym, ap, _∙_, subst}
+use mathlib.Core.Path.{_≡_, refl, ap, _∙_, subst}
 use mathlib.Core.List.{List, [], _∷_, _++_, map}
 use mathlib.Core.Option.{Option, none, some}
 use mathlib.Core.Bool.{Bool, true, false, cond, not, _&&_}
@@ -14,7 +14,7 @@ use borrow.Author.Tests.{ltb-false}
 use Rattle.text.specs.Bytes.{bytes}
 use Rattle.text.specs.Scanning.{upTo, begins}
 use Rattle.sheet.specs.declared.Refusal.{Refusal}
-use Rattle.sheet.specs.declared.Refusal.the-variants.{TooLong, NoLineFeed, WrongKey, WrongCount, NotANumber, Surplus, Outside, Material, Shares, SectionTwice, NoSuchWall, ReadTwice, Missing, Colder, GasTotal}
+use Rattle.sheet.specs.declared.Refusal.the-variants.{TooLong, NoLineFeed, WrongKey, WrongCount, NotANumber, Outside, Material, Shares, SectionTwice, NoSuchWall, ReadTwice, Missing, Colder, GasTotal}
 use Rattle.sheet.specs.Refusals.{number}
 use Rattle.sheet.specs.Shown.{same}
 use Rattle.lines.specs.Quantities.{gasTotal}

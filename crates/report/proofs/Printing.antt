@@ -1,5 +1,5 @@
 -- A figure found from whole joules is the one that the definitions print. Assumes nothing.
-use Prim.Native.Nat.{ℕ, _*_, _<_}
+use Prim.Native.Nat.{ℕ, _*_}
 use mathlib.Core.Path.{_≡_, sym, ap, ap₂, _∙_}
 use mathlib.Core.List.{List, [], _∷_}
 use native.Mathlib.Nat.{mul-comm}
@@ -11,16 +11,16 @@ use mir.Val.{SFits, toZ, ofZ}
 use mir.Facts.{toZ-ofZ}
 use Rattle.arith.specs.Nearest.{nearest}
 use Rattle.arith.proofs.Int.{one-*ℤ}
-use Rattle.arith.proofs.Ring.{v, #, _⊕_, _⊗_, ring}
+use Rattle.arith.proofs.Ring.{v, #, _⊗_, ring}
 use Rattle.arith.proofs.Lin.{leq, prd, under}
 use Rattle.arith.proofs.Order.{abs-mul}
 use Rattle.arith.proofs.NearestLaws.{nearest-scaled, nearest-exact}
 use Rattle.arith.proofs.Span.{far}
-use Rattle.arith.proofs.Machine.{small, Mx, raw, num, _⟨*⟩_, span}
+use Rattle.arith.proofs.Machine.{raw, num, _⟨*⟩_, span}
 use Rattle.sheet.specs.Firing.{Firing}
 use Rattle.lines.specs.Limits.{Limits}
 use Rattle.formulas.specs.Rounding.{Rounding, paper}
-use Rattle.formulas.specs.Formulas.{joule, sum, totalGas, q1}
+use Rattle.formulas.specs.Formulas.{joule, totalGas, q1}
 use Rattle.formulas.specs.Report.{printed, heat, share, number as number′}
 use Rattle.heat.specs.declared.Heats.{Heats}
 use Rattle.formulas.specs.Figures.{Is, Figure}

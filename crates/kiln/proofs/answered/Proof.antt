@@ -5,7 +5,6 @@ use mathlib.Core.Path.{_≡_, ap, _∙_}
 use mathlib.Core.List.{List}
 use native.Mathlib.Omega.{arith}
 use lib.ListN.{length}
-use lib.IntN.{ℤ}
 use Rattle.sheet.specs.declared.Sheet.{Sheet}
 use Rattle.lines.specs.Rows.{firingOf}
 use Rattle.lines.proofs.Numbering.{refuses}

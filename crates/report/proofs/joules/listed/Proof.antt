@@ -1,10 +1,6 @@
 -- The figures of the report, one call after the other. Assumes nothing.
-use mathlib.Core.Path.{_≡_, refl}
-use borrow.Author.Needs.{needs, sfits-of}
-use lib.IntN.{ℤ}
-use mir.Syntax.{w64}
-use mir.Val.{SFits}
-use mir.Facts.{toZ-ofZ}
+use mathlib.Core.Path.{refl}
+use borrow.Author.Needs.{sfits-of}
 use Rattle.formulas.specs.Formulas.{q1, q2, q3, q5, q8, income, x1, x2, x3, x5, x7, x8, x9, x10, x11, useful, withset}
 use Rattle.formulas.specs.Report.{lines, figures}
 use Rattle.report.proofs.Printing.{per-tonne-can, of-fuel-can, number-is, per-tonne-is, of-fuel-is, _then_}

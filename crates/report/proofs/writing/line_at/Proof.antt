@@ -1,16 +1,13 @@
 -- The key is the part of the table between two starts. Assumes nothing.
 use borrow.Author.Needs.{needs}
-use mathlib.Core.Path.{_≡_, ap, ap₂, subst, _∙_}
-use mathlib.Core.List.{List, []}
-use Prim.Native.Nat.{ℕ, _+_, _≤_}
+use mathlib.Core.Path.{_≡_, ap, ap₂}
+use mathlib.Core.List.{[]}
 use native.Mathlib.Omega.{arith}
 use lib.ListN.{length, getD}
-use lib.IntN.{ℤ}
 use mir.Syntax.{w64}
 use mir.Val.{toZ, ofZ}
 use mir.Facts.{toZ-ofZ}
 use Rattle.text.specs.Decimal.{line}
-use Rattle.text.specs.Writing.{Written}
 use Rattle.formulas.specs.Report.{keys}
 use Rattle.report.proofs.Keys.{key-at, Key, cut}
 use Rattle.report.proofs.writing.line_at.Statement.{statement}

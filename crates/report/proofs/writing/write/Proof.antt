@@ -4,7 +4,7 @@ use mathlib.Core.List.{List, [], _++_}
 use Prim.Native.Nat.{ℕ, _+_, _-_, _≤_}
 use native.Mathlib.Omega.{arith}
 use lib.ListN.{length, getD, length-append}
-use lib.IntN.{ℤ, pos}
+use lib.IntN.{pos}
 use borrow.Author.Needs.{sfits-of}
 use mir.Syntax.{w64}
 use mir.Val.{toZ, ofZ}
@@ -12,7 +12,7 @@ use mir.Facts.{toZ-ofZ}
 use Rattle.text.specs.Decimal.{line}
 use Rattle.text.specs.Writing.{Written}
 use Rattle.text.proofs.Writing.{begun, next, length-over}
-use Rattle.formulas.specs.Report.{keys, linesText}
+use Rattle.formulas.specs.Report.{keys}
 use Rattle.report.proofs.Lines.{firstLines, no-lines, one-more, all-lines, not-longer}
 use Rattle.report.proofs.writing.write.Statement.{statement}
 use Rattle.report.proofs.writing.write.Tie as tie
