@@ -1,0 +1,194 @@
+/* Shows the balance of one firing as a table, or says why its sheet is refused: screen FILE.
+ *
+ * It calls the library as the tablet's screen does. Exit status: 0 a balance is shown, 1 the sheet is refused, 2 there is nothing to show.
+ */
+#include <inttypes.h>
+#include <stdbool.h>
+#include <stdio.h>
+#include <string.h>
+
+#include "hallviska.h"
+
+enum { SHOWN = 0, REFUSED = 1, FAILED = 2 };
+
+/* The report's lines in their order. A line that begins a group has the group's heading. */
+struct item {
+    const char *key;
+    const char *heading;
+    const char *words;
+};
+
+/* The three lines that are treated apart. A place that did not fit the table below would be an error of the compiler's. */
+enum { FIRING = 0, INCOME = 6, EFFICIENCY = 18 };
+
+static const struct item items[] = {
+    [FIRING] = {"firing", NULL, "number of the firing"},
+    {"q1", "Heat that came in", "the gas, burnt"},
+    {"q2", NULL, "the gas, warm as it came"},
+    {"q3", NULL, "the setters, as they went in"},
+    {"q5", NULL, "the green ware, as it went in"},
+    {"q8", NULL, "the kiln, before it was lit"},
+    [INCOME] = {"in", NULL, "all of it"},
+    {"x1", "Where it went", "into the ware"},
+    {"x2", NULL, "into the water of the ware"},
+    {"x3", NULL, "into the clay as it turned"},
+    {"x5", NULL, "into the setters"},
+    {"x7", NULL, "up the chimney as hot flue gas"},
+    {"x8", NULL, "up the chimney as CO, unburnt"},
+    {"x9", NULL, "through roof, walls and floor"},
+    {"x10", NULL, "into the kiln itself"},
+    {"x11", NULL, "somewhere else"},
+    {"useful", "What the firing was for", "heat that the ware needed"},
+    {"withset", NULL, "the same with its setters"},
+    [EFFICIENCY] = {"eff1", "Of the burnt gas's heat", "the ware needed"},
+    {"eff2", NULL, "the ware and its setters needed"},
+};
+
+enum { ITEMS = sizeof items / sizeof items[0] };
+_Static_assert(ITEMS == 20, "a report has 20 lines");
+
+/* What the clerk can do something about, in the clerk's words. */
+static const char *const refusals[] = {
+    [HALLVISKA_TOO_LONG] = "the sheet is longer than 16,384 bytes",
+    [HALLVISKA_FORM] = "this is not the line that is due here, or it is not written as it should be",
+    [HALLVISKA_RANGE] = "a number is too small or too great",
+    [HALLVISKA_MATERIAL] = "a listed material has its own specific heat, and material 0 needs one",
+    [HALLVISKA_GAS] = "the shares of the gas do not add to 100 %, or it would burn without air",
+    [HALLVISKA_SECTION] = "this section is listed twice, or this wall's section or stage is not listed",
+    [HALLVISKA_READ_TWICE] = "this section has been read in this stage already",
+    [HALLVISKA_NOT_READ] = "a section has not been read in every stage",
+    [HALLVISKA_COLDER] = "the surface is colder than the air near it",
+    [HALLVISKA_TOTAL_GAS] = "the gas of all stages is less than 10 or more than 20,000 cubic metres",
+    [HALLVISKA_NO_ROOM] = "the report is longer than this screen's room for it",
+};
+
+/* Fourteen digits are more than any firing has, and times 20,000 they still fit 64 bits, which `share` needs. */
+enum { DIGITS_MOST = 14 };
+
+/* Takes `text` off the front of the report. The report ends where its length says and has no 0 byte, so no string function will do. */
+static bool take(const uint8_t **at, const uint8_t *end, const char *text)
+{
+    size_t length = strlen(text);
+    if ((size_t)(end - *at) < length || memcmp(*at, text, length) != 0)
+        return false;
+    *at += length;
+    return true;
+}
+
+static bool take_number(const uint8_t **at, const uint8_t *end, int64_t *number)
+{
+    bool negative = take(at, end, "-");
+    int64_t size = 0;
+    int digits = 0;
+    while (*at < end && **at >= '0' && **at <= '9') {
+        if (++digits > DIGITS_MOST)
+            return false;
+        size = 10 * size + (**at - '0');
+        ++*at;
+    }
+    *number = negative ? -size : size;
+    return digits > 0;
+}
+
+/* A screen built for another edition of the library must say so, and not show figures under the wrong names. */
+static bool parse(const uint8_t *report, size_t length, int64_t numbers[ITEMS])
+{
+    const uint8_t *at = report;
+    const uint8_t *end = report + length;
+    for (int i = 0; i < ITEMS; i++) {
+        if (!take(&at, end, items[i].key) || !take(&at, end, "=") || !take_number(&at, end, &numbers[i]) || !take(&at, end, "\n"))
+            return false;
+    }
+    return at == end;
+}
+
+/* The part of the whole in hundredths of a percent, to the nearest: whole numbers, so that every machine shows the same. */
+static int64_t share(int64_t part, int64_t whole)
+{
+    int64_t size = part < 0 ? -part : part;
+    int64_t rounded = (20000 * size + whole) / (2 * whole);
+    return part < 0 ? -rounded : rounded;
+}
+
+/* The sign is printed apart, for -5 hundredths are -0.05 and not 0.05. */
+static void show_percent(int64_t hundredths)
+{
+    int64_t size = hundredths < 0 ? -hundredths : hundredths;
+    char text[32];
+    snprintf(text, sizeof text, "%s%" PRId64 ".%02" PRId64, hundredths < 0 ? "-" : "", size / 100, size % 100);
+    printf(" %12s\n", text);
+}
+
+static void show(const int64_t numbers[ITEMS])
+{
+    printf("Firing %-37" PRId64 " %14s %12s\n", numbers[FIRING], "kJ/t", "% of income");
+    for (int i = FIRING + 1; i < ITEMS; i++) {
+        if (items[i].heading)
+            printf("\n%s\n", items[i].heading);
+        printf("  %-8s%-34s", items[i].key, items[i].words);
+        if (i >= EFFICIENCY) {
+            /* The library gives these two as shares already, in hundredths of a percent. */
+            printf(" %14s", "");
+            show_percent(numbers[i]);
+        } else if (numbers[INCOME] > 0) {
+            printf(" %14" PRId64, numbers[i]);
+            show_percent(share(numbers[i], numbers[INCOME]));
+        } else {
+            /* Things colder than the air can bring in less than nothing. There is no share of that. */
+            printf(" %14" PRId64 " %12s\n", numbers[i], "-");
+        }
+    }
+}
+
+static void show_refusal(struct hallviska_answer answer)
+{
+    bool known = answer.refusal < sizeof refusals / sizeof refusals[0] && refusals[answer.refusal];
+    printf("Refused (%" PRIu32 ")", answer.refusal);
+    if (answer.line != 0)
+        printf(", line %" PRIu32, answer.line);
+    printf(": %s.\n", known ? refusals[answer.refusal] : "this screen does not know that number");
+}
+
+/* One byte more than a sheet may have: a longer file is cut there, and the library refuses it as too long. */
+static uint8_t sheet[HALLVISKA_SHEET_MOST + 1];
+static uint8_t report[HALLVISKA_REPORT_MOST];
+
+int main(int argc, char **argv)
+{
+    if (argc != 2) {
+        fputs("usage: screen FILE\n", stderr);
+        return FAILED;
+    }
+    FILE *file = fopen(argv[1], "rb");
+    if (!file) {
+        perror(argv[1]);
+        return FAILED;
+    }
+    size_t length = fread(sheet, 1, sizeof sheet, file);
+    bool unread = ferror(file);
+    fclose(file);
+    if (unread) {
+        /* What was read before the fault may look like a sheet, and a balance of half a sheet is worse than none. */
+        fprintf(stderr, "%s: cannot be read\n", argv[1]);
+        return FAILED;
+    }
+
+    struct hallviska_answer answer = hallviska_balance(sheet, length, report, sizeof report);
+    int64_t numbers[ITEMS];
+    int status = SHOWN;
+    if (answer.refusal != HALLVISKA_ACCEPTED) {
+        show_refusal(answer);
+        status = REFUSED;
+    } else if (answer.length > sizeof report || !parse(report, answer.length, numbers)) {
+        fputs("the library's report is not one that this screen knows\n", stderr);
+        return FAILED;
+    } else {
+        show(numbers);
+    }
+    /* A full disk or a closed pipe shows itself only when the text is written out. */
+    if (fflush(stdout) != 0 || ferror(stdout)) {
+        perror("screen");
+        return FAILED;
+    }
+    return status;
+}
