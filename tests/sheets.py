@@ -4,10 +4,14 @@ A sheet in the making is a list of rows, each a key and its fields, so that a
 damage can still find its place; `text` turns it into bytes.  The ranges come
 from the module `kiln`, because a limit that the two programs hold differently
 shows itself at its ends whichever of the two is wrong.
+
+    sheets.py FOLDER    writes a sheet for each refusal there, with its answer
 """
 
 import copy
+import pathlib
 import random
+import sys
 
 from kiln import BLOCKS, LINES, LONGEST, TOTAL_GAS
 
@@ -617,3 +621,20 @@ def make(count, seed):
             yield text(halves(rng))
         else:
             yield damaged(rng)
+
+
+def write_refused(folder):
+    """refused-N.sheet and refused-N.report for every refusal that a sheet can earn."""
+    first = {}
+    for _, data, due in edges():
+        first.setdefault(due[0], (data, due))
+    for number in range(1, 11):
+        data, due = first[number]
+        (folder / ('refused-%d.sheet' % number)).write_bytes(data)
+        (folder / ('refused-%d.report' % number)).write_text('refused=%d,%d\n' % due)
+
+
+if __name__ == '__main__':
+    if len(sys.argv) != 2:
+        sys.exit('usage: sheets.py FOLDER')
+    write_refused(pathlib.Path(sys.argv[1]))
