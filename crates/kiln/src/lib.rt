@@ -50,7 +50,7 @@ fn reported(figures: [i64; 20], room: &mut [u8]) -> Answer
 }
 
 // The answer, and that a report is short.
-pub fn answered(sheet: &[u8], room: &mut [u8]) -> Answer
+fn answered(sheet: &[u8], room: &mut [u8]) -> Answer
     ensures { λ r. ⌜ r ≡ answerOf (now (sheet .entry)) (length (now (room .entry))) ⌝ }
     ensures { λ _. ⌜ now (room .exit) ≡ bufferOf (now (sheet .entry)) (now (room .entry)) ⌝ }
     ensures { λ _. ⌜ Short (now (sheet .entry)) ⌝ }

@@ -4,7 +4,7 @@
 // A constructor `checked` takes the number, the fault found so far (0 for none) and the number of
 // its own field. It returns a struct, `KilosRead` for `Kilos`, with a value that is within the limits
 // in any case and the first fault. So the fields of a line are checked one after another, with no
-// branch between them. `specs/Laws.antt` has what its callers may conclude.
+// branch between them. `proofs/Laws.antt` has what its callers may conclude.
 pub mod gas;
 pub mod heat;
 pub mod kiln;

@@ -38,12 +38,20 @@ fn digit_count(n: u64) -> usize
     k
 }
 
-// Puts a line of the report, `key=z` and LF, at a place, and answers where it ends.
+// Puts a line of the report, `key=z` and LF, into the part that begins at a place, and answers where it ends.
 pub fn line_at(out: &mut [u8], at: usize, key: &[u8], z: i64) -> usize
     requires { ⌜ at + length (line (now key) z) ≤ length (now out) ⌝ }
     ensures { λ r. ⌜ Written at (line (now (key .entry)) z) (now (out .entry)) (now (out .exit)) r ⌝ }
 {
-    let a = bytes_at(out, at, key);
+    at + put_line(&mut out[at..], key, z)
+}
+
+// Puts a line at the front, and answers how long it is.
+fn put_line(out: &mut [u8], key: &[u8], z: i64) -> usize
+    requires { ⌜ length (line (now key) z) ≤ length (now out) ⌝ }
+    ensures { λ r. ⌜ Written 0 (line (now (key .entry)) z) (now (out .entry)) (now (out .exit)) r ⌝ }
+{
+    let a = bytes_at(out, 0, key);
     let b = bytes_at(out, a, b"=");
     let c = number_at(out, b, z);
     bytes_at(out, c, b"\n")

@@ -1,61 +1,42 @@
--- `line_at` meets its contract: its four pieces are written one behind the other, and the line's length leaves room for each.
--- Assumes nothing.
-use Prim.Native.Nat.{_+_, _≤_}
+-- `line_at` meets its contract: what was written at the front of the part stands at its place in the whole. Assumes nothing.
+use borrow.Author.Needs.{needs}
+use mathlib.Core.Path.{ap}
 use native.Mathlib.Omega.{arith}
+use lib.IntN.{ℤ}
 use lib.ListN.{length}
 use mir.Syntax.{w64}
 use mir.ValLaws.{toZ-ofZ}
-use borrow.Author.Needs.{needs}
-use Rattle.text.specs.Decimal.{decimal}
-use Rattle.text.proofs.Decimal.{length-line, line-pieces}
-use Rattle.text.proofs.Signed.{W}
-use Rattle.text.proofs.Writing.{next}
+use Rattle.text.specs.Decimal.{line}
+use Rattle.text.proofs.Writing.{in-part}
 use Rattle.text.proofs.write.line_at.Statement.{statement}
 use Rattle.text.proofs.write.line_at.Tie as tie
 
-room : (s : tie.Start) → s .args .at + length (s .args .key .now) + length (decimal (W (s .args .z))) + 2 ≤ length (s .args .out .now)
-room s = rw (toZ-ofZ w64 (s .args .z) (s .fits .z)) (omega (arith, length-line (s .args .key .now) (s .args .z)))
+put-line-requires : tie.Need-put-line-requires
+put-line-requires c κs =
+    let s = c .before .before .before in
+    let e = ap (λ (x : ℤ). length (line (s .args .key .now) x)) (toZ-ofZ w64 (s .args .z) (s .fits .z)) in
+    omega (arith, e, s .pre)
 
--- how much room is left behind the key, behind `=`, and behind the number
-after-key : (c : tie.After-bytes-at) → c .bytes-at .result + length (decimal (W (c .before .before .before .before .args .z))) + 2 ≤ length (c .bytes-at .last .0)
-after-key c = omega (arith, room (c .before .before .before .before), c .bytes-at .ensures .ends, c .bytes-at .kept .0)
-
-after-equals : (c : tie.After-bytes-at2) → c .bytes-at2 .result + length (decimal (W (c .before .before .before .before .before .before .before .before .before .args .z))) + 1 ≤ length (c .bytes-at2 .last .0)
-after-equals c = omega (arith, after-key (c .before .before .before .before .before), c .bytes-at2 .ensures .ends, c .bytes-at2 .kept .0)
-
-bytes-at-requires : tie.Need-bytes-at-requires
-bytes-at-requires c κs = omega (arith, room (c .before .before .before))
-
-bytes-at-requires-2 : tie.Need-bytes-at-requires-2
-bytes-at-requires-2 c κs = omega (arith, after-key (c .before .before .before .before))
-
-number-at-requires : tie.Need-number-at-requires
-number-at-requires c κs = omega (arith, after-equals (c .before .before .before))
-
-bytes-at-requires-3 : tie.Need-bytes-at-requires-3
-bytes-at-requires-3 c κs =
-    let n = c .before .before .before .before in
-    omega (arith, after-equals (n .before .before .before .before), n .number-at .ensures .ends, n .number-at .kept .0)
+add-result : tie.Need-add-result
+add-result c =
+    let n = c .before .before in
+    let s = n .before .before .before .before in
+    let e = ap (λ (x : ℤ). length (line (s .args .key .now) x)) (toZ-ofZ w64 (s .args .z) (s .fits .z)) in
+    omega (arith, e, s .pre, n .put-line .ensures .ends)
 
 returns : tie.Need-returns
 returns c =
-    let l = c .before .before in
-    let n = l .before .before .before .before .before in
-    let b = n .before .before .before .before in
-    let k = b .before .before .before .before .before in
-    let s = k .before .before .before .before in
-    let number = rw (toZ-ofZ w64 (s .args .z) (s .fits .z)) at (n .number-at .ensures) in
-    rw (← line-pieces) (next (next (next (k .bytes-at .ensures) (b .bytes-at2 .ensures)) number) (l .bytes-at3 .ensures))
+    let s = c .before .before .before .before .before .before in
+    in-part (s .args .at) (line (s .args .key .now) (s .args .z)) (s .args .out .now) (rw (toZ-ofZ w64 (s .args .z) (s .fits .z)) at (c .before .before .put-line .ensures))
 
 pub line-at-spec : {M : Type 1} → statement M
 line-at-spec =
     tie.close
     (tie.spec
-    bytes-at-requires
     (λ c. search needs)
-    bytes-at-requires-2
-    number-at-requires
     (λ c. search needs)
-    bytes-at-requires-3
+    (λ c. search needs)
+    put-line-requires
+    add-result
     (λ c. search needs)
     returns)
