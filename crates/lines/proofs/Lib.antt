@@ -13,4 +13,5 @@ pub mod Kept
 pub mod Limits
 pub mod Numbering
 pub mod Document01
+pub mod Readings
 pub mod Example
