@@ -141,7 +141,9 @@ pub fn wall_rows(
         let stage = w.stage;
         let j = walls::section_place(sections, count, number);
         let cell = j * 12 + (stage.0 - 1);
-        let read = walls::is_read(readings, cell);
+        let at = walls::looked_up(cell);
+        let there = readings[at];
+        let read = walls::is_read(there, cell);
         let q = l.place;
         p = wall_place(p.line, q, w, j < count, stages, read);
         if p.good {

@@ -1,15 +1,15 @@
 -- The walls laid into their cells: each section and stage has a cell of its own among the 144, so a cell is read exactly where a wall of its
 -- section and stage was laid. Assumes nothing.
-use Prim.Native.Nat.{ℕ, _≤_, _<_}
+use Prim.Native.Nat.{ℕ, _≤_, _<_, min}
 use native.Mathlib.Omega.{arith}
 use mathlib.Core.Path.{_≡_, refl, sym, ap, _∙_}
 use mathlib.Core.Bool.{Bool, true, false, _&&_, _||_, or-false}
 use mathlib.Core.List.{List, [], _∷_, _++_, map}
-use lib.Dec.{eqb, leb→le}
-use lib.ListN.{length, getD, set, replicate, length-set, length-replicate, getD-replicate}
+use lib.Dec.{eqb, ltb, leb→le}
+use lib.ListN.{length, getD, set, replicate, length-set, length-replicate, getD-replicate, List·getD-eq-default}
 use lib.IntN.{ℤ, pos, negsuc, natAbs}
 use lib.Seq.{getD-set-same, getD-set-other}
-use borrow.Author.Tests.{eqb-true, eqb-false}
+use borrow.Author.Tests.{eqb-true, eqb-false, ltb-true, ltb-false}
 use Rattle.sheet.specs.declared.Reading.{Reading}
 use Rattle.sheet.specs.Firing.{Section, Wall}
 use Rattle.sheet.specs.Shown.{same, before, cell, reading, unread, laid}
@@ -23,6 +23,17 @@ use Rattle.walls.specs.Walls.{readAt}
 use Rattle.lines.proofs.Rules.{same-self, same-is}
 use Rattle.walls.proofs.Same.{any-map}
 use Rattle.walls.proofs.Sections.{before-one}
+
+-- A cell is looked up among the 144, and beyond the last there is none.
+read-there : (cells : List Reading) → length cells ≡ 144 → (k : ℕ) → (ltb k 144 && getD cells (min k 143) unread .read) ≡ readAt cells k
+read-there cells n k = here (ltb k 144) refl
+  where
+    here : (t : Bool) → ltb k 144 ≡ t → (t && getD cells (min k 143) unread .read) ≡ readAt cells k
+    here true e = let d : min k 143 ≡ k = omega (arith, ltb-true k 144 e) in ap (λ (i : ℕ). getD cells i unread .read) d
+    here false e = sym (ap (λ (x : Reading). x .read) (List·getD-eq-default cells unread (omega (arith, n, ltb-false k 144 e))))
+
+pub read-is : (cells : List Reading) (k i : ℕ) (read : Bool) → length cells ≡ 144 → i ≡ min k 143 → read ≡ (ltb k 144 && getD cells i unread .read) → read ≡ readAt cells k
+read-is cells k i read n e r = r ∙ ap (λ (j : ℕ). ltb k 144 && getD cells j unread .read) e ∙ read-there cells n k
 
 -- A wall whose section is listed and whose stage is one of twelve.
 pub record Placed (S : List Section) (w : Wall) : Type 0 where

@@ -1,12 +1,14 @@
 // The readings at the walls: which section a line `wall` names, which rule it breaks, and whether every section was read in every stage.
 ghost use mathlib.Core.Path.{_≡_};
 ghost use mathlib.Core.List.{map};
-ghost use Prim.Native.Nat.{_≤_, _<_};
+ghost use Prim.Native.Nat.{_≤_, _<_, min};
+ghost use mathlib.Core.Bool.{_&&_};
+ghost use lib.Dec.{ltb};
 ghost use lib.ListN.{take};
 ghost use lib.IntN.{pos};
 ghost use lib.Signed.{ltZ};
 ghost use Rattle.sheet.specs.Shown.{section, before};
-ghost use Rattle.walls.specs.Walls.{rulingOf, readAt, rowRead, allRead};
+ghost use Rattle.walls.specs.Walls.{rulingOf, rowRead, allRead};
 use quantity::kiln::SectionNumber;
 use quantity::temperature::NearAir;
 use quantity::temperature::SurfaceTemperature;
@@ -77,15 +79,18 @@ pub fn wall_ruling(listed: bool, staged: bool, read: bool, colder: bool) -> Ruli
     }
 }
 
-// Whether a cell is read; one beyond the last is not, so that the cell of a wall with no section may be asked for.
-pub fn is_read(readings: [Reading; 144], cell: usize) -> bool
-    ensures { λ r. ⌜ r ≡ readAt readings cell ⌝ }
+// Where a cell is looked up: beyond the last there is none, so that the cell of a wall with no section may be asked for.
+pub fn looked_up(cell: usize) -> usize
+    ensures { λ r. ⌜ r ≡ min cell 143 ⌝ }
 {
-    if cell < 144 {
-        let x = readings[cell];
-        return x.read;
-    }
-    false
+    if cell < 144 { cell } else { 143 }
+}
+
+// Whether a cell is read, by what lies where it is looked up; one beyond the last is not.
+pub fn is_read(there: Reading, cell: usize) -> bool
+    ensures { λ r. ⌜ r ≡ (ltb cell 144 && there .read) ⌝ }
+{
+    cell < 144 && there.read
 }
 
 // Whether a section was read in each of the first stages.
@@ -95,7 +100,9 @@ fn row_read(readings: [Reading; 144], row: usize, stages: usize) -> bool
 {
     let mut stage = 0;
     while stage < stages {
-        if is_read(readings, row * 12 + stage) {
+        let cell = row * 12 + stage;
+        let there = readings[cell];
+        if there.read {
             stage += 1;
         } else {
             return false;

@@ -1,27 +1,15 @@
--- An array has no cell from its length on, and there the definition says unread. Assumes nothing.
-use borrow.Author.Needs.{needs}
+-- A cell beyond the last is not looked at. Assumes nothing.
+use mathlib.Core.Path.{refl}
 use native.Mathlib.Omega.{arith}
-use Prim.Native.Nat.{_≤_}
-use mathlib.Core.Path.{sym, ap}
-use lib.ListN.{length, List·getD-eq-default}
-use Rattle.sheet.specs.declared.Reading.{Reading}
-use Rattle.sheet.specs.Shown.{unread}
+use borrow.Author.Tests.{lt-ltb, le-ltb}
 use Rattle.walls.proofs.is_read.Statement.{statement}
 use Rattle.walls.proofs.is_read.Tie as tie
 
-mul-x : tie.Need-mul-x
-mul-x c = search needs
-
-array-copy-out-x : tie.Need-array-copy-out-x
-array-copy-out-x c = search needs
-
 returns : tie.Need-returns
-returns c = search needs
+returns c = rw (lt-ltb (c .before .args .cell) 144 (omega arith)) refl
 
 returns-2 : tie.Need-returns-2
-returns-2 c =
-    let past : length (c .before .args .t1) ≤ c .before .args .cell = omega arith in
-    sym (ap (λ (x : Reading). x .read) (List·getD-eq-default (c .before .args .t1) unread past))
+returns-2 c = rw (le-ltb (c .before .args .cell) 144 (omega arith)) refl
 
 pub is-read-spec : {M : Type 1} → statement M
-is-read-spec = tie.close (tie.spec mul-x array-copy-out-x returns returns-2)
+is-read-spec = tie.close (tie.spec returns returns-2)

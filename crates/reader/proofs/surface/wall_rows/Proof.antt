@@ -17,6 +17,7 @@ use Rattle.sheet.specs.Shown.{section, before, cell, reading, laid, unread}
 use Rattle.lines.specs.Document01.{wallLine, wall-rule}
 use Rattle.walls.specs.Walls.{rulingOf, readAt}
 use Rattle.walls.proofs.Sections.{before-most}
+use Rattle.walls.proofs.Readings.{read-is}
 use Rattle.entries.specs.declared.Place.{Place}
 use Rattle.reader.specs.declared.surface.WallLine.{WallLine}
 use Rattle.entries.specs.Place.{Ready}
@@ -94,24 +95,30 @@ add-cell c =
     let k = c .before .before .before .before .before .wall-line .ensures .most in
     omega arith
 
+mul-there : tie.Need-mul-there Inv-loop μ-loop
+mul-there c = omega (arith, c .looked-up .ensures)
+
+array-copy-out-there : tie.Need-array-copy-out-there Inv-loop μ-loop
+array-copy-out-there c = omega (arith, c .looked-up .ensures)
+
 loop-again : tie.Need-loop-again Inv-loop μ-loop
 loop-again c =
     let b = c .before in
-    let l = b .before .before .before .before .before .before .before .before .wall-line in
-    let j = b .before .before .before .before .section-place in
-    let at = b .before .before .before .before .before .before .before .before .before .before .loop in
-    let st = b .before .before .before .before .before .before .before .before .before .before .before .before .before in
+    let l = b .before .before .before .before .before .before .before .before .before .before .wall-line in
+    let j = b .before .before .before .before .before .before .section-place in
+    let at = b .before .before .before .before .before .before .before .before .before .before .before .before .loop in
+    let st = b .before .before .before .before .before .before .before .before .before .before .before .before .before .before .before in
     let a = st .args in
     let S = shown (a .sections) (a .count) in
     let few : length S ≤ 12 = omega (arith, at .inv .1, count-is (a .sections) (a .count) (at .inv .2)) in
-    let f = found (a .sections) (a .count) (a .stages) (at .readings) (l .result) (at .p .line) (j .result) (b .before .before .is-read .result) (b .wall-place .result) (at .inv .2) (j .ensures) (b .before .before .is-read .ensures) (b .wall-place .ensures) in
+    let f = found (a .sections) (a .count) (a .stages) (at .readings) (l .result) (at .p .line) (j .result) (b .before .before .is-read .result) (b .wall-place .result) (at .inv .2) (j .ensures) (read-is (at .readings) _ _ _ (at .inv .3) (b .before .before .before .before .looked-up .ensures) (b .before .before .is-read .ensures)) (b .wall-place .ensures) in
     let r = rule-on S (a .stages) (at .readings) (l .result .wall) in
     let stored : (settled (at .p .line) (l .result .place) r .good ≡ true → c .if1 .readings ≡ set (at .readings) (cell S (wall (l .result .wall))) (reading (wall (l .result .wall)))) × (length (c .if1 .readings) ≡ 144) =
     ⊎-elim
     (λ w. (λ g. w .2 ∙ ap₂ (λ (k : ℕ) (x : Reading). set (at .readings) (k * 12 + (l .result .wall .stage .0 - 1)) x) (f .place) (w .1 .ensures), rw (w .2) (simp length-set (at .inv .3))))
     (λ w. (λ g. not-both (b .wall-place .result .good) (ap (λ (p : Place). p .good) (f .after) ∙ g) (w .0 .left), rw (w .1) (at .inv .3)))
     (c .if1 .came) in
-    let more = b .before .before .before .before .before .before .before .before .before .loop-test .taken in (
+    let more = b .before .before .before .before .before .before .before .before .before .before .before .loop-test .taken in (
       omega arith,
       at .inv .1,
       at .inv .2,
@@ -123,21 +130,21 @@ loop-again c =
 mul-readings : tie.Need-mul-readings Inv-loop μ-loop
 mul-readings c =
     let b = c .before .before in
-    let j = b .before .before .before .before .section-place in
-    let at = b .before .before .before .before .before .before .before .before .before .before in
+    let j = b .before .before .before .before .before .before .section-place in
+    let at = b .before .before .before .before .before .before .before .before .before .before .before .before in
     let a = at .before .before .before .args in
     let m = place-most (a .sections) (a .count) (j .result) _ (at .loop .inv .1) (at .loop .inv .2) (j .ensures) in
-    let k = b .before .before .before .before .before .before .before .before .wall-line .ensures .most in
+    let k = b .before .before .before .before .before .before .before .before .before .before .wall-line .ensures .most in
     omega arith
 
 array-set-from-readings : tie.Need-array-set-from-readings Inv-loop μ-loop
 array-set-from-readings c =
     let b = c .before .before in
-    let l = b .before .before .before .before .before .before .before .before .wall-line in
-    let j = b .before .before .before .before .section-place in
-    let at = b .before .before .before .before .before .before .before .before .before .before in
+    let l = b .before .before .before .before .before .before .before .before .before .before .wall-line in
+    let j = b .before .before .before .before .before .before .section-place in
+    let at = b .before .before .before .before .before .before .before .before .before .before .before .before in
     let a = at .before .before .before .args in
-    let f = found (a .sections) (a .count) (a .stages) (at .loop .readings) (l .result) (at .loop .p .line) (j .result) (b .before .before .is-read .result) (b .wall-place .result) (at .loop .inv .2) (j .ensures) (b .before .before .is-read .ensures) (b .wall-place .ensures) in
+    let f = found (a .sections) (a .count) (a .stages) (at .loop .readings) (l .result) (at .loop .p .line) (j .result) (b .before .before .is-read .result) (b .wall-place .result) (at .loop .inv .2) (j .ensures) (read-is (at .loop .readings) _ _ _ (at .loop .inv .3) (b .before .before .before .before .looked-up .ensures) (b .before .before .is-read .ensures)) (b .wall-place .ensures) in
     let k : j .result < a .count = found-below (at .loop .inv .2) f (c .before .if1 .taken) in
     let m = l .ensures .most in
     omega (arith, at .loop .inv .1)
@@ -161,6 +168,9 @@ wall-rows-spec =
     mul-cell
     sub-cell
     add-cell
+    (λ c κs. search needs)
+    mul-there
+    array-copy-out-there
     (λ c κs. search needs)
     (λ c κs. search needs)
     (λ c κs. search needs)
