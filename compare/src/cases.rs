@@ -1,0 +1,263 @@
+//! The sheets that are compared: which kinds there are, how often each comes, and in what room the report is written.
+
+use crate::dice::Dice;
+use crate::draft::{fields, span, Draft};
+use crate::faults::{self, FAULTS, OF_WALLS, WHOLE};
+use crate::valid::{self, Pin, Style};
+use crate::{forms, halves, inner};
+use second::limits::LONGEST;
+
+/// A sheet and the room that is lent for its report.
+pub struct Case {
+    pub number: u64,
+    pub kind: &'static str,
+    pub sheet: Vec<u8>,
+    pub room: usize,
+}
+
+/// Makes the bytes of a kind's sheet. The step counts the sheets of the kind, for kinds that go through something in order.
+type Make = fn(&Source, u64, &mut Dice) -> Vec<u8>;
+
+struct Kind {
+    name: &'static str,
+    /// Of 64 sheets so many are of this kind.
+    often: usize,
+    make: Make,
+}
+
+const KINDS: [Kind; 18] = [
+    Kind { name: "usual", often: 18, make: |_, _, dice| usual(dice).bytes() },
+    Kind { name: "wild", often: 7, make: |_, _, dice| wild(dice).bytes() },
+    Kind { name: "of any size", often: 1, make: |_, _, dice| of_any_size(dice).bytes() },
+    Kind { name: "least", often: 2, make: |_, _, dice| least(dice).bytes() },
+    Kind { name: "at a limit", often: 5, make: at_limit },
+    Kind { name: "beyond a limit", often: 3, make: beyond_limit },
+    Kind { name: "one rule broken", often: 5, make: one_fault },
+    Kind { name: "two rules broken", often: 5, make: two_faults },
+    Kind { name: "number form", often: 4, make: number_form },
+    Kind { name: "torn", often: 2, make: torn },
+    Kind { name: "lines", often: 2, make: lines },
+    Kind { name: "bytes", often: 3, make: |_, _, dice| bytes(dice) },
+    Kind { name: "length and noise", often: 1, make: long_or_noise },
+    Kind { name: "printed at a half", often: 2, make: |_, step, dice| halves::printed(step, dice).bytes() },
+    Kind { name: "rounded at a half", often: 1, make: |_, step, dice| inner::rounded(step, dice).bytes() },
+    Kind { name: "efficiency at a half", often: 1, make: |_, step, dice| halves::efficiency(step, dice).bytes() },
+    Kind { name: "room", often: 1, make: |source, step, _| source.base("room", step / ROOMS, usual) },
+    Kind { name: "unchanged example", often: 1, make: example },
+];
+
+const WHEEL: usize = 64;
+
+/// Rooms that are tried with the same sheet, one after the other. No report is longer than 328 bytes.
+const ROOMS: u64 = 340;
+
+/// Tears that are tried with the same sheet: a small one is shorter than this and so torn at every byte.
+const TEARS: u64 = 450;
+
+/// Where sheets come from: a seed, and sheets that are given.
+pub struct Source {
+    seed: u64,
+    examples: Vec<Vec<u8>>,
+    wheel: Vec<usize>,
+}
+
+impl Source {
+    pub fn new(seed: u64, examples: Vec<Vec<u8>>) -> Source {
+        let mut wheel = Vec::new();
+        for (place, kind) in KINDS.iter().enumerate() {
+            wheel.extend(std::iter::repeat(place).take(kind.often));
+        }
+        assert_eq!(wheel.len(), WHEEL, "the kinds fill the wheel");
+        // The kinds take turns, so that few sheets already show something of each.
+        let mut turns = Dice::new(0, 0, 0);
+        turns.shuffle(&mut wheel);
+        Source { seed, examples, wheel }
+    }
+
+    /// The sheet of this number, which is the same each time.
+    pub fn case(&self, number: u64) -> Case {
+        let turn = (number % WHEEL as u64) as usize;
+        let place = self.wheel[turn];
+        let before = self.wheel[..turn].iter().filter(|&&other| other == place).count() as u64;
+        let kind = &KINDS[place];
+        let step = number / WHEEL as u64 * kind.often as u64 + before;
+        let mut dice = Dice::new(self.seed, place as u64, step);
+        let sheet = (kind.make)(self, step, &mut dice);
+        let room = if kind.name == "room" { (step % ROOMS) as usize } else { room(&sheet, &mut dice) };
+        Case { number, kind: kind.name, sheet, room }
+    }
+
+    /// A sheet that several cases start from.
+    fn base(&self, purpose: &str, step: u64, make: fn(&mut Dice) -> Draft) -> Vec<u8> {
+        let name = purpose.bytes().fold(0, |sum: u64, byte| sum * 256 + u64::from(byte));
+        make(&mut Dice::new(self.seed, name, step)).bytes()
+    }
+}
+
+/// Mostly a room that suits, exactly or with some to spare; now and then one that is too small.
+fn room(sheet: &[u8], dice: &mut Dice) -> usize {
+    let needed = second::answer(sheet, &mut [0; 1024]).length;
+    match dice.below(12) {
+        0..=4 => needed,
+        5..=7 => needed + dice.below(64),
+        8 => needed + 1,
+        9 => needed.saturating_sub(1),
+        10 => dice.below(600),
+        _ => dice.pick(&[0, 1, 1024, needed / 2]),
+    }
+}
+
+fn usual(dice: &mut Dice) -> Draft {
+    let size = valid::usual_size(dice);
+    valid::draft(dice, Style::Plain, size, None)
+}
+
+fn wild(dice: &mut Dice) -> Draft {
+    let size = valid::usual_size(dice);
+    valid::draft(dice, Style::Wild, size, None)
+}
+
+fn least(dice: &mut Dice) -> Draft {
+    let style = dice.pick(&[Style::Plain, Style::Wild]);
+    valid::draft(dice, style, valid::least_size(), None)
+}
+
+fn of_any_size(dice: &mut Dice) -> Draft {
+    let size = if dice.once_in(2) { valid::largest_size(dice) } else { valid::any_size(dice) };
+    let style = dice.pick(&[Style::Plain, Style::Wild, Style::Wild]);
+    valid::draft(dice, style, size, None)
+}
+
+fn any(dice: &mut Dice) -> Draft {
+    match dice.below(16) {
+        0..=9 => usual(dice),
+        10..=12 => wild(dice),
+        13 => of_any_size(dice),
+        _ => least(dice),
+    }
+}
+
+/// The step's field, and what has gone through all fields before.
+fn turn(step: u64) -> ((usize, usize), u64) {
+    let all: Vec<_> = fields().collect();
+    (all[(step % all.len() as u64) as usize], step / all.len() as u64)
+}
+
+/// Each field in turn at its least and greatest value and next to them, in a sheet that allows it.
+fn at_limit(_: &Source, step: u64, dice: &mut Dice) -> Vec<u8> {
+    let ((key, field), round) = turn(step);
+    let (least, greatest) = span(key, field);
+    let value = [least, greatest, (least + 1).min(greatest), (greatest - 1).max(least)][(round % 4) as usize];
+    let style = dice.pick(&[Style::Plain, Style::Plain, Style::Wild]);
+    let size = valid::usual_size(dice);
+    valid::draft(dice, style, size, Some(Pin { key, field, value })).bytes()
+}
+
+/// Each field in turn one below its least value and one above its greatest.
+fn beyond_limit(_: &Source, step: u64, dice: &mut Dice) -> Vec<u8> {
+    let ((key, field), round) = turn(step);
+    let (least, greatest) = span(key, field);
+    let value = if round % 2 == 0 { least - 1 } else { greatest + 1 };
+    let size = valid::usual_size(dice);
+    valid::draft(dice, Style::Plain, size, Some(Pin { key, field, value })).bytes()
+}
+
+fn one_fault(_: &Source, step: u64, dice: &mut Dice) -> Vec<u8> {
+    let mut draft = any(dice);
+    FAULTS[(step % FAULTS.len() as u64) as usize](&mut draft, dice);
+    draft.bytes()
+}
+
+/// Two or three faults: anywhere, in wall lines, in one row, of the whole sheet, or of bytes and numbers together.
+fn two_faults(_: &Source, step: u64, dice: &mut Dice) -> Vec<u8> {
+    let mut draft = any(dice);
+    let sets: [&[faults::Fault]; 3] = [&FAULTS, &OF_WALLS, &WHOLE];
+    let set = sets[(step % 3) as usize];
+    for _ in 0..dice.pick(&[1, 2, 2, 3]) {
+        dice.pick(set)(&mut draft, dice);
+    }
+    let place = dice.below(draft.rows.len());
+    match dice.below(6) {
+        0 => faults::beyond(&mut draft, dice, place),
+        1 => dice.pick(&FAULTS)(&mut draft, dice),
+        _ => {}
+    }
+    let mut sheet = draft.bytes();
+    match dice.below(8) {
+        0 => forms::line(&mut sheet, dice),
+        1 => forms::bytes(&mut sheet, dice),
+        2 => forms::tail(&mut sheet, dice),
+        3 => any_form(&mut sheet, dice),
+        4 => sheet.truncate(sheet.len() - 1),
+        _ => {}
+    }
+    sheet
+}
+
+fn any_form(sheet: &mut Vec<u8>, dice: &mut Dice) {
+    let field = dice.below(forms::field_count(sheet));
+    forms::number(sheet, field, dice.below(forms::NUMBER_FORMS));
+}
+
+/// Every form of a number in every field of a small sheet, one after the other.
+fn number_form(source: &Source, step: u64, dice: &mut Dice) -> Vec<u8> {
+    let mut sheet = source.base("form", step / 4096, small);
+    let form = (step % forms::NUMBER_FORMS as u64) as usize;
+    let field = step as usize / forms::NUMBER_FORMS % forms::field_count(&sheet);
+    forms::number(&mut sheet, field, form);
+    if dice.once_in(16) {
+        any_form(&mut sheet, dice);
+    }
+    sheet
+}
+
+/// A sheet with a line of each kind and no more.
+fn small(dice: &mut Dice) -> Draft {
+    valid::draft(dice, Style::Plain, valid::Size { stages: 1, setters: 1, parts: 1, sections: 1 }, None)
+}
+
+fn torn(source: &Source, step: u64, dice: &mut Dice) -> Vec<u8> {
+    let mut sheet = source.base("torn", step / TEARS, small);
+    let mut length = (step % TEARS) as usize;
+    if length > sheet.len() {
+        sheet = any(dice).bytes();
+        length = dice.below(sheet.len());
+    }
+    sheet.truncate(length);
+    sheet
+}
+
+fn lines(_: &Source, step: u64, dice: &mut Dice) -> Vec<u8> {
+    let mut sheet = any(dice).bytes();
+    match step % 8 {
+        0 => forms::carriage_returns(&mut sheet, dice),
+        1 => forms::tail(&mut sheet, dice),
+        _ => forms::line(&mut sheet, dice),
+    }
+    sheet
+}
+
+fn bytes(dice: &mut Dice) -> Vec<u8> {
+    let mut sheet = any(dice).bytes();
+    forms::bytes(&mut sheet, dice);
+    sheet
+}
+
+/// Around the longest length now and then, for such sheets take time; otherwise bytes that are hardly a sheet.
+fn long_or_noise(_: &Source, step: u64, dice: &mut Dice) -> Vec<u8> {
+    let mut sheet = any(dice).bytes();
+    if step % 8 == 0 {
+        let length = dice.pick(&[LONGEST - 1, LONGEST, LONGEST, LONGEST + 1, LONGEST + 1, 2 * LONGEST]);
+        forms::stretch(&mut sheet, length, dice);
+    } else {
+        forms::noise(&mut sheet, dice);
+    }
+    sheet
+}
+
+fn example(source: &Source, step: u64, dice: &mut Dice) -> Vec<u8> {
+    match source.examples.get((step % 64) as usize) {
+        Some(sheet) => sheet.clone(),
+        None => usual(dice).bytes(),
+    }
+}

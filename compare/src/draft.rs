@@ -1,0 +1,103 @@
+//! A sheet as rows of numbers, before it becomes bytes.
+
+use second::limits::{Span, LINES};
+use std::io::Write;
+
+/// A kind of line: its place in document 01's table.
+pub type Key = usize;
+
+pub const SHEET: Key = 0;
+pub const FIRING: Key = 1;
+pub const PRODUCT: Key = 2;
+pub const AMBIENT: Key = 3;
+pub const FUEL: Key = 4;
+pub const GAS: Key = 5;
+pub const AIR: Key = 6;
+pub const WARE: Key = 7;
+pub const WATER: Key = 8;
+pub const CLAY: Key = 9;
+pub const STAGES: Key = 10;
+pub const STAGE: Key = 11;
+pub const SETTERS: Key = 12;
+pub const SETTER: Key = 13;
+pub const PARTS: Key = 14;
+pub const PART: Key = 15;
+pub const SECTIONS: Key = 16;
+pub const SECTION: Key = 17;
+pub const WALLS: Key = 18;
+pub const WALL: Key = 19;
+pub const END: Key = 20;
+
+/// One line.
+#[derive(Clone)]
+pub struct Row {
+    pub key: Key,
+    pub values: Vec<i64>,
+}
+
+/// A whole sheet. Nothing keeps its rows from breaking rules: that is what most of them are for.
+#[derive(Clone, Default)]
+pub struct Draft {
+    pub rows: Vec<Row>,
+}
+
+pub fn span(key: Key, field: usize) -> Span {
+    LINES[key].1[field]
+}
+
+/// Every field of every kind of line, in the sheet's order.
+pub fn fields() -> impl Iterator<Item = (Key, usize)> {
+    (0..LINES.len()).flat_map(|key| (0..LINES[key].1.len()).map(move |field| (key, field)))
+}
+
+impl Draft {
+    pub fn add(&mut self, key: Key, values: &[i64]) {
+        self.rows.push(Row { key, values: values.to_vec() });
+    }
+
+    /// Where the rows of this kind stand.
+    pub fn places(&self, key: Key) -> Vec<usize> {
+        (0..self.rows.len()).filter(|&place| self.rows[place].key == key).collect()
+    }
+
+    /// The first row of this kind, which the sheet has.
+    pub fn first(&mut self, key: Key) -> &mut Vec<i64> {
+        let row = self.rows.iter_mut().find(|row| row.key == key).expect("a row of this kind");
+        &mut row.values
+    }
+
+    /// Gives the first row of this kind other values.
+    pub fn set(&mut self, key: Key, values: &[i64]) {
+        self.first(key).copy_from_slice(values);
+    }
+
+    /// Puts a row behind the last one of its kind, or behind the count where there is none, and counts it.
+    pub fn append(&mut self, count: Key, values: &[i64]) {
+        let start = self.rows.iter().position(|row| row.key == count).expect("a row with the count");
+        // A count that a fault has changed does not say how many rows there are.
+        let there = self.rows[start + 1..].iter().take_while(|row| row.key == count + 1).count();
+        self.rows[start].values[0] += 1;
+        self.rows.insert(start + 1 + there, Row { key: count + 1, values: values.to_vec() });
+    }
+
+    pub fn bytes(&self) -> Vec<u8> {
+        let mut text = Vec::with_capacity(1024);
+        self.write(&mut text);
+        text
+    }
+
+    /// The sheet's bytes, in place of what `text` held.
+    pub fn write(&self, text: &mut Vec<u8>) {
+        text.clear();
+        for row in &self.rows {
+            text.extend_from_slice(LINES[row.key].0.as_bytes());
+            let mut before = b'=';
+            for value in &row.values {
+                text.push(before);
+                write!(text, "{value}").expect("memory takes all");
+                before = b',';
+            }
+            text.push(b'\n');
+        }
+    }
+}

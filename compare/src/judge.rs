@@ -1,0 +1,71 @@
+//! Whether the library did with a sheet what the second opinion says is due.
+
+use crate::cases::Case;
+use crate::harness::{fill, Deed};
+use second::Answer;
+
+/// What is due for a sheet: the answer, and every byte of the room after it.
+pub struct Due {
+    pub answer: Answer,
+    pub room: Vec<u8>,
+}
+
+/// A way to spoil one of the second opinion's answers, to see that the comparison fails when it should.
+#[derive(Clone, Copy, PartialEq, Debug)]
+pub enum Damage {
+    Refusal,
+    Accepted,
+    Line,
+    Length,
+    FirstByte,
+    LastByte,
+    ByteBeyond,
+    RoomOfRefused,
+}
+
+impl Damage {
+    pub fn named(name: &str) -> Option<Damage> {
+        use Damage::*;
+        let named = [
+            ("refusal", Refusal),
+            ("accepted", Accepted),
+            ("line", Line),
+            ("length", Length),
+            ("first-byte", FirstByte),
+            ("last-byte", LastByte),
+            ("byte-beyond", ByteBeyond),
+            ("room-of-refused", RoomOfRefused),
+        ];
+        named.iter().find(|(other, _)| *other == name).map(|(_, damage)| *damage)
+    }
+
+    /// True where the answer could be spoilt in this way.
+    pub fn spoil(self, due: &mut Due) -> bool {
+        let Answer { refusal, line, length } = due.answer;
+        let refused = refusal != 0;
+        match self {
+            Damage::Refusal if refused => due.answer.refusal -= 1,
+            Damage::Accepted if refused => due.answer = Answer { refusal: 0, line: 0, length: 0 },
+            Damage::Line if line > 0 => due.answer.line += 1,
+            Damage::Length if !refused => due.answer.length += 1,
+            Damage::FirstByte if !refused => due.room[0] ^= 1,
+            Damage::LastByte if !refused => due.room[length - 1] ^= 1,
+            Damage::ByteBeyond if !refused && due.room.len() > length => due.room[length] ^= 1,
+            Damage::RoomOfRefused if refused && !due.room.is_empty() => due.room[0] ^= 1,
+            _ => return false,
+        }
+        true
+    }
+}
+
+/// What is due for a sheet that is the harness's request of this number.
+pub fn due(case: &Case, request: u64) -> Due {
+    let mut room = vec![0; case.room];
+    fill(request, &mut room);
+    let answer = second::answer(&case.sheet, &mut room);
+    Due { answer, room }
+}
+
+pub fn agree(due: &Due, deed: &Deed) -> bool {
+    deed.touched == 0 && due.answer == deed.answer && due.room == deed.room
+}

@@ -1,0 +1,87 @@
+//! Compares the proved library with the second opinion: compare [--damage WAY] [--sample N] COUNT SEED HARNESS [WORD...]
+//!
+//! It is started at the top of the repository, by tools/compare. It ends with status 0 where nothing differs and every refusal was met,
+//! 1 where something differs or a refusal was not met, and 2 where it could not compare.
+
+mod cases;
+mod dice;
+mod draft;
+mod faults;
+mod forms;
+mod halves;
+mod harness;
+mod inner;
+mod judge;
+mod program;
+mod run;
+mod show;
+mod valid;
+
+use cases::Source;
+use judge::Damage;
+use run::{Outcome, Plan};
+use std::process::ExitCode;
+use std::{env, fs, io};
+
+/// How the program `balance` is started.
+const PROGRAM: [&str; 2] = ["tools/run", "balance"];
+
+fn plan() -> Option<Plan> {
+    let mut words: Vec<String> = env::args().skip(1).collect();
+    let mut plan = Plan { count: 0, seed: 0, harness: Vec::new(), damage: None, sample: 0 };
+    while words.first()?.starts_with("--") {
+        let value = words.get(1)?.clone();
+        match words[0].as_str() {
+            "--damage" => plan.damage = Some(Damage::named(&value)?),
+            "--sample" => plan.sample = value.parse().ok()?,
+            _ => return None,
+        }
+        words.drain(..2);
+    }
+    if words.len() < 3 {
+        return None;
+    }
+    plan.count = words[0].parse().ok()?;
+    plan.seed = words[1].parse().ok()?;
+    plan.harness = words.split_off(2);
+    Some(plan)
+}
+
+/// The sheets under examples/, by name, so that their order does not hang on the file system.
+fn examples() -> io::Result<Vec<Vec<u8>>> {
+    let mut paths = Vec::new();
+    for entry in fs::read_dir("examples")? {
+        let path = entry?.path();
+        if path.extension().map_or(false, |kind| kind == "sheet") {
+            paths.push(path);
+        }
+    }
+    paths.sort();
+    paths.iter().map(fs::read).collect()
+}
+
+fn compare(plan: &Plan) -> io::Result<Outcome> {
+    let source = Source::new(plan.seed, examples()?);
+    let mut outcome = run::library(plan, &source)?;
+    if outcome.difference.is_none() {
+        outcome.difference = run::program(plan, &source, &PROGRAM)?;
+    }
+    Ok(outcome)
+}
+
+fn main() -> ExitCode {
+    let plan = match plan() {
+        Some(plan) => plan,
+        None => {
+            eprintln!("compare [--damage WAY] [--sample N] COUNT SEED HARNESS [WORD...]");
+            return ExitCode::from(2);
+        }
+    };
+    match compare(&plan) {
+        Ok(outcome) => ExitCode::from(u8::from(!outcome.tell(&plan))),
+        Err(error) => {
+            eprintln!("compare: {error}");
+            ExitCode::from(2)
+        }
+    }
+}

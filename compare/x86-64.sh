@@ -1,0 +1,33 @@
+# For scripts of bash to read: what makes and runs a program for x86-64, for which alone the library is made.
+# It sets `compiler` and `runner`, and brings `install`, for a machine that lacks something. The script sets `built` before.
+
+# Debian's packages. Fetching them needs root, so another user hears their names.
+install() {
+    if [ "$(id -u)" != 0 ] || ! command -v apt-get >/dev/null; then
+        printf '%s: these packages are missing: %s\n' "$0" "$*" >&2
+        exit 2
+    fi
+    printf '%s: installing %s\n' "$0" "$*" >&2
+    local apt=(env DEBIAN_FRONTEND=noninteractive apt-get install -y --no-install-recommends "$@")
+    # a fresh machine has no list of packages yet
+    "${apt[@]}" >"$built/apt.log" 2>&1 || { apt-get update && "${apt[@]}"; } >"$built/apt.log" 2>&1 || {
+        cat "$built/apt.log" >&2
+        exit 2
+    }
+}
+
+if [ "$(uname -m)" = x86_64 ]; then
+    compiler=gcc
+    runner=()
+    command -v gcc >/dev/null || install gcc libc6-dev
+else
+    compiler=x86_64-linux-gnu-gcc
+    root=/usr/x86_64-linux-gnu
+    if ! command -v $compiler >/dev/null || [ ! -e $root/lib/libc.so ]; then
+        install gcc-x86-64-linux-gnu libc6-dev-amd64-cross
+    fi
+    kit=${RATTLE_HOME:-$(dirname "$(dirname "$(readlink -f "$(command -v rt)")")")}
+    # the toolchain brings an emulator
+    runner=("$kit/on/$(uname -m)/toolchain/bin/qemu-x86_64" -L "$root")
+fi
+command -v cargo >/dev/null || install cargo
