@@ -27,7 +27,8 @@ else
         install gcc-x86-64-linux-gnu libc6-dev-amd64-cross
     fi
     kit=${RATTLE_HOME:-$(dirname "$(dirname "$(readlink -f "$(command -v rt)")")")}
-    # the toolchain brings an emulator
-    runner=("$kit/on/$(uname -m)/toolchain/bin/qemu-x86_64" -L "$root")
+    # The toolchain brings an emulator. Unless it is told to be a plain processor, the C library copies with instructions that it has to
+    # take byte by byte, and all is ten times as slow.
+    runner=("$kit/on/$(uname -m)/toolchain/bin/qemu-x86_64" -cpu qemu64 -L "$root")
 fi
 command -v cargo >/dev/null || install cargo

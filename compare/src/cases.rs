@@ -25,9 +25,10 @@ struct Kind {
     make: Make,
 }
 
-const KINDS: [Kind; 18] = [
-    Kind { name: "usual", often: 18, make: |_, _, dice| usual(dice).bytes() },
+const KINDS: [Kind; 19] = [
+    Kind { name: "usual", often: 16, make: |_, _, dice| usual(dice).bytes() },
     Kind { name: "wild", often: 7, make: |_, _, dice| wild(dice).bytes() },
+    Kind { name: "corner", often: 2, make: |_, _, dice| corner(dice).bytes() },
     Kind { name: "of any size", often: 1, make: |_, _, dice| of_any_size(dice).bytes() },
     Kind { name: "least", often: 2, make: |_, _, dice| least(dice).bytes() },
     Kind { name: "at a limit", often: 5, make: at_limit },
@@ -125,6 +126,14 @@ fn least(dice: &mut Dice) -> Draft {
 fn of_any_size(dice: &mut Dice) -> Draft {
     let size = if dice.once_in(2) { valid::largest_size(dice) } else { valid::any_size(dice) };
     let style = dice.pick(&[Style::Plain, Style::Wild, Style::Wild]);
+    valid::draft(dice, style, size, None)
+}
+
+/// All numbers as great or small as they can be: what is too great for a word of the processor shows here.
+fn corner(dice: &mut Dice) -> Draft {
+    let greatest = dice.bits();
+    let style = Style::Corner(dice.pick(&[greatest, greatest, greatest, greatest, greatest, greatest, 0, u64::MAX]));
+    let size = if dice.once_in(3) { valid::any_size(dice) } else { valid::usual_size(dice) };
     valid::draft(dice, style, size, None)
 }
 

@@ -20,19 +20,20 @@ impl Dice {
         Dice { state: mix(state) }
     }
 
-    fn next(&mut self) -> u64 {
+    /// 64 bits, each of which is as often 0 as 1.
+    pub fn bits(&mut self) -> u64 {
         self.state = self.state.wrapping_add(STEP);
         mix(self.state)
     }
 
     /// 0 up to but without `n`, which is not 0.
     pub fn below(&mut self, n: usize) -> usize {
-        (self.next() % n as u64) as usize
+        (self.bits() % n as u64) as usize
     }
 
     /// `least` up to and with `greatest`.
     pub fn between(&mut self, least: i64, greatest: i64) -> i64 {
-        least + (self.next() % (greatest - least + 1) as u64) as i64
+        least + (self.bits() % (greatest - least + 1) as u64) as i64
     }
 
     /// True once in `n` throws.

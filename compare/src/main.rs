@@ -3,23 +3,9 @@
 //! It is started at the top of the repository, by tools/compare. It ends with status 0 where nothing differs and every refusal was met,
 //! 1 where something differs or a refusal was not met, and 2 where it could not compare.
 
-mod cases;
-mod dice;
-mod draft;
-mod faults;
-mod forms;
-mod halves;
-mod harness;
-mod inner;
-mod judge;
-mod program;
-mod run;
-mod show;
-mod valid;
-
-use cases::Source;
-use judge::Damage;
-use run::{Outcome, Plan};
+use compare::cases::Source;
+use compare::judge::Damage;
+use compare::run::{self, Outcome, Plan};
 use std::process::ExitCode;
 use std::{env, fs, io};
 

@@ -11,6 +11,8 @@ pub enum Style {
     Plain,
     /// Anywhere inside the limits, often at one.
     Wild,
+    /// Each field at its least value or at its greatest, in all lines of a kind alike, by a bit for each field of `draft::fields`.
+    Corner(u64),
 }
 
 /// How many stages, setters, parts and sections.
@@ -130,11 +132,21 @@ impl Maker<'_> {
             return value;
         }
         let limits = span(key, field);
-        let (least, greatest) = match self.style {
-            Style::Wild => return self.dice.wild(limits),
-            Style::Plain => plain(key, field).unwrap_or(limits),
-        };
-        self.dice.between(least, greatest)
+        match self.style {
+            Style::Wild => self.dice.wild(limits),
+            Style::Corner(greatest) => {
+                let place = fields().position(|other| other == (key, field)).expect("a field");
+                if greatest >> place & 1 == 1 {
+                    limits.1
+                } else {
+                    limits.0
+                }
+            }
+            Style::Plain => {
+                let (least, greatest) = plain(key, field).unwrap_or(limits);
+                self.dice.between(least, greatest)
+            }
+        }
     }
 
     fn values(&mut self, key: Key) -> Vec<i64> {
@@ -184,6 +196,11 @@ impl Maker<'_> {
             return;
         }
         let mut shares = [0; 13];
+        if matches!(self.style, Style::Corner(_)) && self.dice.once_in(2) {
+            shares[self.dice.pick(&FUELS)] = ALL_SHARES;
+            self.draft.add(GAS, &shares);
+            return;
+        }
         let mut rest = ALL_SHARES;
         if let Some(pin) = pin {
             shares[pin.field] = self.pinned(GAS, pin.field).unwrap_or(0);
@@ -217,6 +234,7 @@ impl Maker<'_> {
         let total = match self.style {
             Style::Plain => self.dice.between(1_000, 60_000),
             Style::Wild => self.dice.wild((100, 200_000)),
+            Style::Corner(_) => self.dice.pick(&[100, 200_000]),
         };
         let total = total.max(first.unwrap_or(0)).min(200_000);
         let mut rest = total;

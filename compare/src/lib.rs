@@ -1,0 +1,19 @@
+//! The comparison of the proved library with the second opinion, in its parts.
+//!
+//! Sheets: `valid` makes them, `faults` and `forms` break them, `halves` and `inner` bring their figures to where rounding shows, and
+//! `cases` says how often each kind comes. The comparison: `harness` talks to the program in C that calls the library, `judge` says what
+//! is due, `show` puts a difference into words, and `run` does all of it.
+
+pub mod cases;
+pub mod dice;
+pub mod draft;
+pub mod faults;
+pub mod forms;
+pub mod halves;
+pub mod harness;
+pub mod inner;
+pub mod judge;
+pub mod program;
+pub mod run;
+pub mod show;
+pub mod valid;
