@@ -26,7 +26,7 @@ impl<'a> Scan<'a> {
     ///
     /// All of the line's form is seen to before any of its values, for refusal 2 comes before refusal 3.
     #[inline]
-    pub fn line<const N: usize>(&mut self, key: &[u8], spans: &[Span; N]) -> Result<[i64; N], Refused> {
+    pub fn line<const K: usize, const N: usize>(&mut self, key: &[u8; K], spans: &[Span; N]) -> Result<[i64; N], Refused> {
         self.line += 1;
         let values = match self.values(key) {
             Some(values) => values,
@@ -44,11 +44,11 @@ impl<'a> Scan<'a> {
     }
 
     #[inline]
-    fn values<const N: usize>(&mut self, key: &[u8]) -> Option<[i64; N]> {
-        if !self.sheet[self.at..].starts_with(key) {
+    fn values<const K: usize, const N: usize>(&mut self, key: &[u8; K]) -> Option<[i64; N]> {
+        if self.sheet.get(self.at..self.at + K)? != key {
             return None;
         }
-        self.at += key.len();
+        self.at += K;
         let mut values = [0; N];
         for (place, value) in values.iter_mut().enumerate() {
             *value = self.number()?;
@@ -62,7 +62,7 @@ impl<'a> Scan<'a> {
     }
 
     /// One number. What may not follow it, as a digit after a 0 or a tenth digit, is for the caller, who knows what is due.
-    #[inline]
+    #[inline(always)]
     fn number(&mut self) -> Option<i64> {
         let mut byte = *self.sheet.get(self.at)?;
         let negative = byte == b'-';
