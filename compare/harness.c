@@ -30,8 +30,8 @@ struct head {
 
 static uint8_t batch[BATCH_MOST];
 static uint8_t lent[GUARD + 16 + ROOM_MOST + GUARD];
-/* Behind it lies a page that nobody may touch: whoever reads one byte too many ends here. */
-static uint8_t *sheet_end;
+/* Where sheets lie. Before and behind it is a page that nobody may touch: whoever reads one byte too many ends there. */
+static uint8_t *sheet_area, *sheet_end;
 
 static const char *damage = "";
 static uint64_t number;
@@ -95,6 +95,8 @@ static void spoil(struct head *head, uint8_t *report, uint8_t *sheet, size_t she
         sheet[sheet_length - 1] ^= 1;
     else if (strcmp(damage, "stale") == 0 && memcmp(&old, &last, sizeof old) != 0)
         *head = last, head->room = old.room;
+    else if (strcmp(damage, "read-before") == 0)
+        head->line += sheet_area[-1];
     else if (strcmp(damage, "read-beyond") == 0)
         head->line += sheet_end[0];
     else if (strcmp(damage, "hang-up") == 0)
@@ -106,10 +108,10 @@ static void spoil(struct head *head, uint8_t *report, uint8_t *sheet, size_t she
     damage = "";
 }
 
-/* One call: the sheet's last byte is the last that can be read, and the report lies at every alignment in turn. */
+/* One call. In turn the sheet's last byte is the last that can be read and its first the first, and the report lies at every alignment. */
 static void call(const uint8_t *text, size_t sheet_length, size_t room)
 {
-    uint8_t *sheet = sheet_end - sheet_length;
+    uint8_t *sheet = number % 3 == 0 ? sheet_area : sheet_end - sheet_length;
     uint8_t *report = lent + GUARD + number % 16;
     memcpy(sheet, text, sheet_length);
     for (size_t place = 0; place < GUARD; place++)
@@ -156,10 +158,11 @@ static void work_through(size_t length, uint32_t requests)
 int main(int words, char **word)
 {
     size_t page = (size_t)sysconf(_SC_PAGESIZE);
-    uint8_t *area = mmap(NULL, SHEET_MOST + page, PROT_READ | PROT_WRITE, MAP_PRIVATE | MAP_ANONYMOUS, -1, 0);
-    if (area == MAP_FAILED || SHEET_MOST % page != 0 || mprotect(area + SHEET_MOST, page, PROT_NONE) != 0)
+    uint8_t *pages = mmap(NULL, page + SHEET_MOST + page, PROT_NONE, MAP_PRIVATE | MAP_ANONYMOUS, -1, 0);
+    if (pages == MAP_FAILED || SHEET_MOST % page != 0 || mprotect(pages + page, SHEET_MOST, PROT_READ | PROT_WRITE) != 0)
         fail("no memory for the sheet");
-    sheet_end = area + SHEET_MOST;
+    sheet_area = pages + page;
+    sheet_end = sheet_area + SHEET_MOST;
     if (words > 1)
         damage = word[1];
 

@@ -13,9 +13,12 @@ const TRIES: usize = 400;
 /// Products that leave a half in heats which come in hundreds of joules: the gas's and the clay's.
 const FINE: [i64; 6] = [2_048, 4_096, 6_144, 10_240, 16_000, 64_000];
 
-/// The fields that move a heat, by the heat's place in the report.
-fn knobs(heat: usize) -> &'static [(Key, usize)] {
+/// The fields that move a heat, by the heat's place in the report. Below zero no field may warm it again.
+fn knobs(heat: usize, negative: bool) -> &'static [(Key, usize)] {
     match heat {
+        6 | 15 if negative => &[(WARE, 4)],
+        10 if negative => &[(STAGE, 0)],
+        14 if negative => &[(PART, 0), (WARE, 0)],
         0 => &[(FUEL, 0), (STAGE, 0)],
         1 => &[(FUEL, 1), (STAGE, 0)],
         2 | 9 | 16 => &[(SETTER, 0)],
@@ -77,7 +80,7 @@ fn chill(draft: &mut Draft, dice: &mut Dice) {
         match row.key {
             AMBIENT => values[0] = base,
             FUEL => (values[0], values[1]) = (dice.between(3_000, 4_000), dice.between(0, 200)),
-            WARE => (values[1], values[2]) = (dice.between(0, 200), dice.between(-200, -1)),
+            WARE => values[1..].copy_from_slice(&[dice.between(0, 200), dice.between(-200, -1), 0, dice.between(1, 9_999)]),
             WATER => (values[0], values[1]) = (0, 0),
             CLAY => values[0] = 0,
             STAGE => (values[0], values[2]) = (dice.between(100, 200), dice.between(0, 200)),
@@ -102,11 +105,8 @@ pub fn printed(step: u64, dice: &mut Dice) -> Draft {
         draft.first(PRODUCT)[0] = dice.pick(&FINE);
     }
     let mut fields = Vec::new();
-    for &(key, field) in knobs(heat) {
-        // Water would warm a cold ware's useful heat again.
-        if !(negative && key == WATER) {
-            fields.extend(draft.places(key).into_iter().map(|place| (place, field)));
-        }
+    for &(key, field) in knobs(heat, negative) {
+        fields.extend(draft.places(key).into_iter().map(|place| (place, field)));
     }
     tune(&mut draft, dice, &fields, |found| at_half(found, heat, more) && (found.heats[heat] < 0) == negative);
     draft
@@ -158,7 +158,7 @@ pub fn efficiency(step: u64, dice: &mut Dice) -> Draft {
     draft.first(WATER)[..2].fill(0);
     let half = times * (2 * dice.between(-4_000 / times, 4_000 / times) + 1);
     let entry = dice.between(8_000, 9_000);
-    let rise = if with_setters { dice.between(-200, 8_900) } else { half };
+    let rise = if with_setters { dice.between(-2_000, 2_000) } else { half };
     draft.set(WARE, &[dice.between(0, 2_000), entry, entry + rise, 0, 10_000]);
     let highest = entry + rise;
     let below = |setter: i64| (-200..=18_000).contains(&(highest - setter)).then(|| highest - setter);
@@ -170,4 +170,43 @@ pub fn efficiency(step: u64, dice: &mut Dice) -> Draft {
         }
     }
     draft
+}
+
+#[cfg(test)]
+mod tests {
+    use super::*;
+
+    /// Each heat is met at a half and a joule short of it, above zero and, where it can be, below.
+    #[test]
+    fn every_heat_is_met_at_a_half() {
+        let mut met = [[0; 4]; HEATS];
+        for step in 0..HEATS as u64 * 60 {
+            let draft = printed(step, &mut Dice::new(1, 2, step));
+            let found = balance(&draft.bytes()).expect("an accepted sheet");
+            let heat = (step % HEATS as u64) as usize;
+            let below = usize::from(found.heats[heat] < 0);
+            for more in 0..2 {
+                met[heat][2 * below + more] += usize::from(at_half(&found, heat, more as i64));
+            }
+        }
+        for (heat, [half, short, half_below, short_below]) in met.into_iter().enumerate() {
+            let never_below = matches!(heat, 0 | 7 | 8 | 11 | 12);
+            assert!(half > 5 && (short > 0 || heat == 0 || heat == 8), "heat {heat}: {met:?}");
+            assert!(never_below || half_below > 5 && short_below > 0, "heat {heat}: {met:?}");
+        }
+    }
+
+    /// Both efficiencies are met at a half, above and below zero.
+    #[test]
+    fn both_efficiencies_are_met_at_a_half() {
+        let mut met = [[0; 2]; 2];
+        for step in 0..400 {
+            let draft = efficiency(step, &mut Dice::new(1, 3, step));
+            let found = balance(&draft.bytes()).expect("an accepted sheet");
+            let joules = found.heats[15 + step as usize % 2];
+            let half = 20_000 * joules.abs() % (2 * found.heats[0]) == found.heats[0];
+            met[step as usize % 2][usize::from(joules < 0)] += usize::from(half);
+        }
+        assert!(met.iter().flatten().all(|&count| count > 20), "{met:?}");
+    }
 }
