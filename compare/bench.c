@@ -84,8 +84,8 @@ static void measure(const char *path)
                 best[which] = each;
         }
     const char *name = strrchr(path, '/') ? strrchr(path, '/') + 1 : path;
-    printf("%-28s %6zu %4u,%-4u %10.0f %10.0f %8.2f\n", name, sheet_length, (unsigned)answer.refusal, (unsigned)answer.line, best[0], best[1],
-           best[0] / best[1]);
+    printf("%-34s %6zu %4u,%-4u %10.0f %10.0f %8.2f\n", name, sheet_length, (unsigned)answer.refusal, (unsigned)answer.line, best[0],
+           best[1], best[0] / best[1]);
     fflush(stdout);
 }
 
@@ -96,7 +96,7 @@ int main(int words, char **word)
         call(both[word[2][0] == '1'], atol(word[1]));
         return 0;
     }
-    printf("%-28s %6s %9s %10s %10s %8s\n", "sheet", "bytes", "answer", "library ns", "second ns", "ratio");
+    printf("%-34s %6s %9s %10s %10s %8s\n", "sheet", "bytes", "answer", "library ns", "second ns", "ratio");
     for (int at = 1; at < words; at++)
         measure(word[at]);
     return 0;

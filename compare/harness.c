@@ -17,7 +17,7 @@
 
 #include "hallviska.h"
 
-enum { GUARD = 64, ROOM_MOST = 4096, SHEET_MOST = 65536, BATCH_MOST = 1 << 24 };
+enum { GUARD = 64, ROOM_MOST = 4096, SHEET_MOST = 65536, BATCH_MOST = 1 << 24, FIRST_SPOILT = 300 };
 
 /* What an answer says besides the library's own. */
 enum { UNTOUCHED = 0, TOUCHED_BEFORE = 1, TOUCHED_BEHIND = 2, TOUCHED_SHEET = 4 };
@@ -62,50 +62,62 @@ static bool guarded(const uint8_t *from)
     return true;
 }
 
-/* Spoils this answer where it can be spoilt in the way asked for, and then no other. */
-static void spoil(struct head *head, uint8_t *report, uint8_t *sheet, size_t sheet_length)
+static bool asked_for(const char *way)
+{
+    return strcmp(damage, way) == 0;
+}
+
+/* Spoils what the answer says, where it can be spoilt in the way asked for. */
+static bool spoil_answer(struct head *head)
 {
     static struct head last;
-    bool accepted = head->refusal == 0;
     struct head old = *head;
+    bool accepted = head->refusal == 0;
 
-    if (strcmp(damage, "refusal") == 0 && !accepted)
+    if (asked_for("refusal") && !accepted)
         head->refusal += 1;
-    else if (strcmp(damage, "accepted") == 0 && !accepted)
+    else if (asked_for("accepted") && !accepted)
         head->refusal = head->line = 0;
-    else if (strcmp(damage, "line") == 0 && head->line > 0)
+    else if (asked_for("line") && head->line > 0)
         head->line -= 1;
-    else if (strcmp(damage, "length") == 0 && accepted)
+    else if (asked_for("length") && accepted)
         head->length -= 1;
-    else if (strcmp(damage, "length-of-refused") == 0 && !accepted)
+    else if (asked_for("length-of-refused") && !accepted)
         head->length = 1;
-    else if (strcmp(damage, "first-byte") == 0 && accepted)
+    else if (asked_for("stale"))
+        *head = (struct head){last.refusal, last.line, last.length, old.touched, old.room};
+    last = old;
+    return memcmp(head, &old, sizeof old) != 0;
+}
+
+/* Spoils bytes, or reads where nothing may be read, or ends. */
+static bool spoil_bytes(struct head *head, uint8_t *report, uint8_t *sheet, size_t sheet_length)
+{
+    bool accepted = head->refusal == 0;
+
+    if (asked_for("first-byte") && accepted)
         report[0] ^= 1;
-    else if (strcmp(damage, "last-byte") == 0 && accepted)
+    else if (asked_for("last-byte") && accepted)
         report[head->length - 1] ^= 1;
-    else if (strcmp(damage, "byte-beyond") == 0 && accepted && head->room > head->length)
+    else if (asked_for("byte-beyond") && accepted && head->room > head->length)
         report[head->length] ^= 1;
-    else if (strcmp(damage, "room-of-refused") == 0 && !accepted && head->room > 0)
+    else if (asked_for("room-of-refused") && !accepted && head->room > 0)
         report[head->room - 1] ^= 1;
-    else if (strcmp(damage, "guard-before") == 0)
+    else if (asked_for("guard-before"))
         report[-1] ^= 1;
-    else if (strcmp(damage, "guard-behind") == 0)
+    else if (asked_for("guard-behind"))
         report[head->room] ^= 1;
-    else if (strcmp(damage, "sheet") == 0 && sheet_length > 0)
+    else if (asked_for("sheet") && sheet_length > 0)
         sheet[sheet_length - 1] ^= 1;
-    else if (strcmp(damage, "stale") == 0 && memcmp(&old, &last, sizeof old) != 0)
-        *head = last, head->room = old.room;
-    else if (strcmp(damage, "read-before") == 0)
+    else if (asked_for("read-before"))
         head->line += sheet_area[-1];
-    else if (strcmp(damage, "read-beyond") == 0)
+    else if (asked_for("read-beyond"))
         head->line += sheet_end[0];
-    else if (strcmp(damage, "hang-up") == 0)
+    else if (asked_for("hang-up"))
         exit(0);
-    else {
-        last = old;
-        return;
-    }
-    damage = "";
+    else
+        return false;
+    return true;
 }
 
 /* One call. In turn the sheet's last byte is the last that can be read and its first the first, and the report lies at every alignment. */
@@ -122,10 +134,10 @@ static void call(const uint8_t *text, size_t sheet_length, size_t room)
     struct hallviska_answer answer = hallviska_balance(sheet, sheet_length, report, room);
 
     struct head head = {answer.refusal, answer.line, answer.length, UNTOUCHED, (uint32_t)room};
-    if (strcmp(damage, "crash") == 0 && answer.refusal == HALLVISKA_COLDER)
+    if (asked_for("crash") && answer.refusal == HALLVISKA_COLDER)
         abort();
-    if (*damage && number >= 300)
-        spoil(&head, report, sheet, sheet_length);
+    if (*damage && number >= FIRST_SPOILT && (spoil_answer(&head) || spoil_bytes(&head, report, sheet, sheet_length)))
+        damage = "";
     if (!guarded(report - GUARD))
         head.touched |= TOUCHED_BEFORE;
     if (!guarded(report + room))
