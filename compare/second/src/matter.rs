@@ -10,25 +10,25 @@ type Row = (i64, i64);
 
 /// Materials 1..18, up to and with 800.0 °C where a material has two rows.
 const COOLER: [Row; 19] = [
-    (0, 0),
-    (8_400_000, 260),
-    (8_400_000, 260),
-    (4_200_000, 880),
-    (6_700_000, 167),
-    (6_700_000, 126),
-    (8_000_000, 330),
-    (9_400_000, 250),
-    (7_500_000, 150),
-    (7_700_000, 300),
-    (8_900_000, 420),
-    (6_300_000, 126),
-    (7_300_000, 376),
-    (9_600_000, 150),
-    (8_000_000, 334),
-    (8_400_000, 260),
-    (8_000_000, 293),
-    (8_900_000, 0),
-    (4_600_000, 0),
+    (0, 0),           // none: code 0 has a specific heat of its own
+    (8_400_000, 260), // clay brick
+    (8_400_000, 260), // high-alumina brick
+    (4_200_000, 880), // corundum
+    (6_700_000, 167), // sillimanite
+    (6_700_000, 126), // mullite
+    (8_000_000, 330), // silica
+    (9_400_000, 250), // magnesia
+    (7_500_000, 150), // chrome-magnesia
+    (7_700_000, 300), // spinel
+    (8_900_000, 420), // forsterite
+    (6_300_000, 126), // zircon
+    (7_300_000, 376), // opaque quartz
+    (9_600_000, 150), // silicon carbide
+    (8_000_000, 334), // light silica
+    (8_400_000, 260), // light clay brick
+    (8_000_000, 293), // fibre blanket
+    (8_900_000, 0),   // slag wool
+    (4_600_000, 0),   // steel
 ];
 
 const BREAK: i64 = 8_000;
@@ -77,19 +77,19 @@ impl Stuff {
 
 /// Table A.1 for the 13 gases in the sheet's order: 0.001 kJ/(m³ °C) at 0 °C and at 100 °C.
 const GASES: [(i64, i64); 13] = [
-    (1275, 1287),
-    (1296, 1300),
-    (1300, 1301),
-    (1304, 1317),
-    (1488, 1501),
-    (1597, 1697),
-    (1563, 1651),
-    (1869, 2103),
-    (2061, 2061),
-    (3043, 3959),
-    (4122, 5250),
-    (1530, 1559),
-    (1777, 1860),
+    (1275, 1287), // H2
+    (1296, 1300), // N2
+    (1300, 1301), // CO
+    (1304, 1317), // O2
+    (1488, 1501), // H2O
+    (1597, 1697), // CO2
+    (1563, 1651), // CH4
+    (1869, 2103), // C2H4
+    (2061, 2061), // C2H6
+    (3043, 3959), // C3H8
+    (4122, 5250), // C4H10
+    (1530, 1559), // H2S
+    (1777, 1860), // SO2
 ];
 
 /// The specific heat of a mixture, a straight line, in 1e-10 kJ/(m³ °C): at 0 °C, and what a tenth of a degree adds to it.
@@ -103,7 +103,10 @@ pub fn mixture(shares: &[i64; 13]) -> (i64, i64) {
     (base, slope)
 }
 
-/// Half the joules' divisor and the like never pass 64 bits: gas 200,000, the mixture 4.8e10 and 800 tenths make 7.7e18.
+/// The joules that the gas brings by being warm.
+///
+/// It is formed only once refusals 5 and 10 are out of the way: then 200,000 of gas, 4.8e10 of mixture and 800 tenths of a degree make
+/// 7.7e18, which fits 64 bits.
 #[inline]
 pub fn fuel_heat(gas: i64, mixture: (i64, i64), fuel: i64, base: i64) -> i64 {
     nearest(gas * (mixture.0 + mixture.1 * fuel) * (fuel - base), 1_000_000_000)

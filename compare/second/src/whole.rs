@@ -7,7 +7,7 @@ pub fn nearest(n: i64, d: i64) -> i64 {
     n / d + i64::from(rest >= d - rest) - i64::from(-rest >= d + rest)
 }
 
-/// The greatest whole number whose square is not above `n`.
+/// The greatest whole number whose square is not above `n`, which is below 2^63.
 ///
 /// The root of the uppermost bits is widened four times, each time to twice as many bits: `2^k r + n / (2^k r)` halved is
 /// Newton's step, with the powers of two taken out. The result is right or one too great, which the last line settles.
