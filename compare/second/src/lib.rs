@@ -1,4 +1,5 @@
-//! A second opinion on a firing's sheet: document 01 worked out anew, in whole numbers, from the document's words alone.
+//! A second opinion on a firing's sheet: document 01 worked out anew, in whole numbers, from the document, the standard and
+//! the readings of doubtful places that docs/DECISIONS.md lists.
 //!
 //! The proved library is held to it. So it shares nothing with that library but the documents: whoever corrects one of the two
 //! corrects it from document 01 and not from the other one.
