@@ -1,8 +1,8 @@
 -- Laws of `root`: it is the greatest number whose square is not above n, and there is one such number only. Assumes nothing.
 use mathlib.Core.Path.{_≡_}
 use mathlib.Core.Bool.{Bool, true, false, not, cond}
-use Prim.Native.Nat.{ℕ, zero, suc, _+_, _*_, _/_, _≤_, _<_}
-use native.Mathlib.Nat.{mul-le-mul, le-refl, le-antisymm}
+use Prim.Native.Nat.{ℕ, zero, suc, _+_, _*_, _-_, _/_, _≤_, _<_}
+use native.Mathlib.Nat.{mul-le-mul, le-refl, le-antisymm, lt-div-mul-add}
 use native.Mathlib.Decide.{decLe}
 use native.Mathlib.Omega.{arith}
 use lib.Dec.{T, leb, leb→le, nleb→lt}
@@ -36,3 +36,22 @@ root-mono {m} {n} {r} {s} a b h = go (decLe r s)
 
 pub root-only : {n r s : ℕ} → IsRoot n r → IsRoot n s → r ≡ s
 root-only {n} a b = le-antisymm (root-mono a b (le-refl n)) (root-mono b a (le-refl n))
+
+-- ---- Newton's step
+means : (a b : ℕ) → 4 * (a * b) ≤ (a + b) * (a + b)
+means a b = go (decLe a b)
+  where
+    apart : (a b d : ℕ) → b ≡ a + d → 4 * (a * b) ≤ (a + b) * (a + b)
+    apart a b d e = rw e (omega arith)
+
+    go : Dec (a ≤ b) → 4 * (a * b) ≤ (a + b) * (a + b)
+    go (yes p) = apart a b (b - a) (omega arith)
+    go (no f) = omega (arith, apart b a (a - b) (omega arith))
+
+-- the mean of x and n / x, cut down, is not below the root
+pub newton : (n x : ℕ) → 0 < x → n < ((x + n / x) / 2 + 1) * ((x + n / x) / 2 + 1)
+newton n x h =
+    let q = n / x in
+    let y = (x + q) / 2 + 1 in
+    let s : x + suc q ≤ 2 * y = omega arith in
+    omega (arith, means x (suc q), mul-le-mul s s, lt-div-mul-add {a = n} h)

@@ -1,5 +1,6 @@
 // Division that rounds to the nearest whole number, and the square root cut down to one.
 ghost use mathlib.Core.Path.{_≡_};
+ghost use Prim.Native.Nat.{_+_, _*_, _^_, _<_};
 ghost use lib.IntN.{ℤ, pos, natAbs};
 ghost use lib.Signed.{_<ℤ_};
 ghost use Rattle.arith.specs.Nearest.{nearest};
@@ -20,19 +21,44 @@ pub fn nearest(n: i64, d: i64) -> i64
     }
 }
 
-// The greatest r whose square is not above n, by halving the distance in which it lies.
+// A number from which the root of n is sought downward: not below it, and at most four times as large where n has 41 digits or more in
+// base 2.
+fn start(n: u64) -> u64
+    ensures { λ r. ⌜ (0 < r) × (r < 2 ^ 32) × (n < (r + 1) * (r + 1)) ⌝ }
+{
+    if n < 1_099_511_627_776 {
+        return 1_048_575;
+    }
+    if n < 17_592_186_044_416 {
+        return 4_194_303;
+    }
+    if n < 281_474_976_710_656 {
+        return 16_777_215;
+    }
+    if n < 4_503_599_627_370_496 {
+        return 67_108_863;
+    }
+    if n < 72_057_594_037_927_936 {
+        return 268_435_455;
+    }
+    if n < 1_152_921_504_606_846_976 {
+        return 1_073_741_823;
+    }
+    4_294_967_295
+}
+
+// The greatest r whose square is not above n, by Newton's steps from above: the mean of x and n / x is never below the root.
 pub fn floor_root(n: u64) -> u64
     ensures { λ r. ⌜ r ≡ root n ⌝ }
 {
-    let mut low: u64 = 0;
-    let mut high: u64 = 4_294_967_296;
-    while low + 1 < high {
-        let mid = (low + high) / 2;
-        if mid * mid <= n {
-            low = mid;
-        } else {
-            high = mid;
-        }
+    if n == 0 {
+        return 0;
     }
-    low
+    let mut x = start(n);
+    let mut q = n / x;
+    while q < x {
+        x = (x + q) / 2;
+        q = n / x;
+    }
+    x
 }
