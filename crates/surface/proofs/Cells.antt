@@ -1,6 +1,6 @@
 -- The sum over all cells of the readings is the sum over the walls of the sheet: a wall is laid into a cell where nothing was read before,
 -- so it adds its own heat. Assumes nothing.
-use Prim.Native.Nat.{ℕ, zero, suc, _+_, _-_, _/_, _%_, _≤_, _<_}
+use Prim.Native.Nat.{ℕ, zero, suc, _+_, _*_, _-_, _/_, _%_, _≤_, _<_}
 use mathlib.Core.Path.{_≡_, refl, sym, ap, ap₂, _∙_, subst}
 use mathlib.Core.Bool.{Bool, true, false, cond, and-eq-true-iff}
 use mathlib.Core.List.{List, [], _∷_, map}
@@ -49,6 +49,16 @@ sum-none : (f : ℕ → ℤ) (n : ℕ) → ((j : ℕ) → j < n → f j ≡ pos 
 unfolding sumTo
 sum-none f zero h = refl
 sum-none f (suc n) h = ap₂ _+ℤ_ (sum-none f n (λ j l. h j (omega arith))) (h n (omega arith))
+
+-- terms that are 0 add nothing
+sum-beyond : (f : ℕ → ℤ) (n m : ℕ) → n ≤ m → ((j : ℕ) → n ≤ j → f j ≡ pos 0) → sumTo f m ≡ sumTo f n
+unfolding sumTo
+sum-beyond f n zero l h = let e : n ≡ 0 = omega arith in rw e
+sum-beyond f n (suc m) l h = go (decLe n m) (λ k. sum-beyond f n m k h)
+  where
+    go : Dec (n ≤ m) → (n ≤ m → sumTo f m ≡ sumTo f n) → sumTo f m +ℤ f m ≡ sumTo f n
+    go (yes k) rest = ap₂ _+ℤ_ (rest k) (h m k) ∙ ring (sumTo f n ∷ []) (v 0 ⊕ # 0) (v 0) tt
+    go (no k) rest = let e : n ≡ suc m = omega arith in ap (sumTo f) (sym e)
 
 -- one term, which was 0, is another
 sum-one : (f g : ℕ → ℤ) (n i : ℕ) → i < n → f i ≡ pos 0 → ((j : ℕ) → j ≢ i → g j ≡ f j) → sumTo g n ≡ sumTo f n +ℤ g i
@@ -228,6 +238,11 @@ shown-at g (a ∷ l) zero i d e h = absurd (not-suc-le-zero h)
 shown-at g (a ∷ l) (suc n) zero d e h = refl
 shown-at g (a ∷ l) (suc n) (suc i) d e h = shown-at g l n i d e (le-of-suc-le-suc h)
 
+few-of : {A B : Type 0} (g : A → B) (n : ℕ) (l : List A) → length (map g (take n l)) ≤ n
+few-of g zero l = omega arith
+few-of g (suc n) [] = omega arith
+few-of g (suc n) (a ∷ l) = omega (arith, few-of g n l)
+
 -- the heat of the k-th cell, as the code forms it
 abbrev pub coded : List Reading → List Sectionˢ → List Stageˢ → ℕ → ℤ
 coded readings places times k = cellHeat (getD readings k unread) (section (getD places (k / 12) blankSection)) (stage (getD times (k % 12) blankStage))
@@ -279,3 +294,23 @@ module _ {readings : List Reading} {x : Sections} {y : Stages} {f : Firing} (see
       ∙ laid-total f few (f .walls) (replicate 144 unread) refl (seen .limits .walls) (seen .limits .apart) (fresh (f .walls))
       ∙ ap (λ (z : ℤ). z +ℤ walls) none
       ∙ ring (walls ∷ []) (# 0 ⊕ v 0) (v 0) tt
+
+  -- nothing was read beyond the sections that there are
+  beyond : (k : ℕ) → 12 * x .count .0 ≤ k → coded readings (x .lines) (y .lines) k ≡ pos 0
+  beyond k h = go (getD readings k unread .read) refl
+    where
+      go : (t : Bool) → getD readings k unread .read ≡ t → coded readings (x .lines) (y .lines) k ≡ pos 0
+      go true e =
+          let l : k / 12 < length (map section (take (x .count .0) (x .lines))) = rw (seen .sections) at (cell-lies k e .section) in
+          absurd (let f : ⊥ = omega (arith, l, few-of section (x .count .0) (x .lines)) in f)
+      go false e = rw e
+
+  -- so that their cells are enough
+  pub coded-first : (n : ℕ) → n ≤ 144 → (n < 144 → n ≡ 12 * x .count .0) → sumTo (coded readings (x .lines) (y .lines)) n ≡ x9 f paper
+  coded-first n most h = go (decLe 144 n)
+    where
+      go : Dec (144 ≤ n) → sumTo (coded readings (x .lines) (y .lines)) n ≡ x9 f paper
+      go (yes l) = let e : n ≡ 144 = omega arith in rw e coded-total
+      go (no l) =
+          let b : n ≡ 12 * x .count .0 = h (omega arith) in
+          sym (sum-beyond (coded readings (x .lines) (y .lines)) n 144 most (λ j k. beyond j (omega (arith, b)))) ∙ coded-total

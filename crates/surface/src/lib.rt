@@ -12,6 +12,7 @@ ghost use Rattle.formulas.specs.Rounding.{paper, square};
 ghost use Rattle.formulas.specs.Formulas.{joule, placed, fourth, radiation, flux, wallHeat, x9};
 ghost use Rattle.formulas.specs.Figures.{Exact, Figure};
 ghost use Rattle.surface.specs.Cells.{FourthFits, DifferenceFits, LostFits, RiseIn, HotIn, WallIn, LostIn, cellHeat, CellIn, Seen};
+use formulas::block::held;
 use formulas::rounding::Microjoules;
 use quantity::heat::Joules;
 use quantity::kiln::Area;
@@ -134,15 +135,16 @@ fn cell_heat(reading: Reading, section: Section, stage: Stage) -> Joules
     Joules(0)
 }
 
-// The heat that leaves through the surface: every cell of the readings, by section and stage.
+// The heat that leaves through the surface: every cell of the sections that there are, stage by stage.
 pub fn x9(readings: [Reading; 144], sections: Sections, stages: Stages) -> Joules
     requires { ⌜ ((f : Firing) × Seen readings sections stages f) ⌝ }
     ensures { λ r. ⌜ ((f : Firing) → Seen readings sections stages f → Figure joule 116301265645392 (r .0) (x9 f paper)) ⌝ }
 {
     let places = sections.lines;
     let times = stages.lines;
+    let cells = held(sections.count.0, 12) * 12;
     let mut sum = Joules(0);
-    for k in 0..144 {
+    for k in 0..cells {
         sum = sum.plus(cell_heat(readings[k], places[k / 12], times[k % 12]));
     }
     sum

@@ -7,19 +7,25 @@ use borrow.Author.Needs.{needs}
 use lib.Dec.{lit≤}
 use Rattle.formulas.specs.Formulas.{joule}
 use Rattle.formulas.proofs.Sums.{Running, none, more, more-fits, at-most}
-use Rattle.surface.proofs.Cells.{sumTo, sum-next, coded, cell-in, coded-total}
+use Rattle.surface.proofs.Cells.{sumTo, sum-next, coded, cell-in, coded-first}
 use Rattle.surface.proofs.x9.Statement.{statement}
 use Rattle.surface.proofs.x9.Tie as tie
 
 abbrev Inv-loop : tie.InvT-loop
-Inv-loop readings places times sum₀ k₀ sum k = (k ≤ 144) × Running joule 807647678093 k (sum .0) (sumTo (coded readings places times) k)
+Inv-loop readings places times cells sum₀ k₀ sum k = (k ≤ cells) × (cells ≤ 144) × Running joule 807647678093 k (sum .0) (sumTo (coded readings places times) k)
 
 abbrev μ-loop : tie.MeasureT-loop
-μ-loop readings places times sum₀ k₀ sum k = 144 - k
+μ-loop readings places times cells sum₀ k₀ sum k = cells - k
+
+mul-cells : tie.Need-mul-cells Inv-loop μ-loop
+mul-cells c = omega arith
 
 loop-holds : tie.Need-loop-holds Inv-loop μ-loop
 unfolding sumTo
-loop-holds c = (omega arith, none)
+loop-holds c = (omega arith, omega arith, none)
+
+held-requires : tie.Need-held-requires Inv-loop μ-loop
+held-requires c κs = search needs
 
 mul-cell-heat : tie.Need-mul-cell-heat Inv-loop μ-loop
 mul-cell-heat c = omega arith
@@ -40,10 +46,10 @@ array-copy-out-cell-heat-3 : tie.Need-array-copy-out-cell-heat-3 Inv-loop μ-loo
 array-copy-out-cell-heat-3 c = omega arith
 
 cell-heat-requires : tie.Need-cell-heat-requires Inv-loop μ-loop
-cell-heat-requires c κs = cell-in (c .before .before .before .before .before .before .before .pre .1) (c .before .before .before .before .loop .k)
+cell-heat-requires c κs = cell-in (c .before .before .before .before .before .before .before .before .pre .1) (c .before .before .before .before .loop .k)
 
 plus-requires : tie.Need-plus-requires Inv-loop μ-loop
-plus-requires c κs = more-fits (c .before .before .before .before .before .loop .inv .1) (c .cell-heat .ensures) 144 (omega arith) tt
+plus-requires c κs = more-fits (c .before .before .before .before .before .loop .inv .2) (c .cell-heat .ensures) 144 (omega arith) tt
 
 add-k : tie.Need-add-k Inv-loop μ-loop
 add-k c = search needs
@@ -54,14 +60,13 @@ loop-less c = search needs
 loop-again : tie.Need-loop-again Inv-loop μ-loop
 loop-again c =
     let l = c .before .before .before .before .before .before .loop in
-    (omega arith, rw (c .plus .ensures, sum-next) (more (l .inv .1) (c .before .cell-heat .ensures)))
+    (omega arith, l .inv .1, rw (c .plus .ensures, sum-next) (more (l .inv .2) (c .before .cell-heat .ensures)))
 
 returns : tie.Need-returns Inv-loop μ-loop
 returns c =
     let l = c .before .loop in
-    let end : l .k ≡ 144 = omega arith in
-    let all = at-most 144 (lit≤ tt) (rw end at (l .inv .1)) in
-    λ f seen. rw (← coded-total seen) all
+    let all = at-most 144 (omega arith) (l .inv .2) in
+    λ f seen. rw (← coded-first seen (l .k) (omega arith) (λ h. omega arith)) all
 
 pub x9-spec : {M : Type 1} → statement M
 x9-spec =
@@ -69,6 +74,8 @@ x9-spec =
     (tie.spec
     Inv-loop
     μ-loop
+    held-requires
+    mul-cells
     loop-holds
     mul-cell-heat
     array-copy-out-cell-heat
