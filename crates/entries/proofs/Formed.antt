@@ -18,10 +18,10 @@ use Rattle.lines.specs.Reader.{judged}
 use Rattle.line.specs.declared.Line.{Line}
 use Rattle.line.specs.Line.{zeros, handed, lineAt}
 use Rattle.entries.specs.declared.Place.{Place}
-use Rattle.entries.specs.Place.{refusedAt, Fair, Ready, Meets, After}
+use Rattle.entries.specs.Place.{good, refusedAt, Fair, Ready, Meets, After}
 use Rattle.entries.specs.Taking.{plainNumbers, from}
 use Rattle.entries.specs.Form.{readForm}
-use Rattle.entries.proofs.Places.{not-both}
+use Rattle.entries.proofs.Places.{not-both, refused-bad}
 use Rattle.entries.proofs.Lines.{in-form}
 
 -- ---- the numbers of a row, taken out of the array that it fills from the front
@@ -48,7 +48,7 @@ from-row v zs n h e q =
     rw (← e, from-plain v 0 (length zs), q, sets-eq zs zeros 0 k) (from-at [] zs (drop (0 + length zs) zeros))
 
 -- ---- the place after a line
-module _ (s : List ℕ) (p : Place) (key : List ℕ) (n : ℕ) (r : Ready s p) (good : p .good ≡ true) where
+module _ (s : List ℕ) (p : Place) (key : List ℕ) (n : ℕ) (r : Ready s p) (yes : good p ≡ true) where
   abbrev text : List ℕ
   text = drop (p .at) s
 
@@ -61,29 +61,29 @@ module _ (s : List ℕ) (p : Place) (key : List ℕ) (n : ℕ) (r : Ready s p) (
   unfolding lineAt
   due-refused l P e z = record {
     reads = λ h. rw e (refused-cases P (formedBy key n text) refl (sym (ap (λ (x : Line). x .next) e) ∙ z));
-    passes = λ h. not-both (p .good) good h;
-    fair = λ h. not-both false h refl;
+    passes = λ h. not-both (good p) yes h;
+    fair = λ h. not-both (good (refusedAt (l .refusal) (p .line))) h (refused-bad (l .refusal) (p .line));
   }
 
   -- one that is handed out with numbers is read, and they are its row's
   read-cases : (v : List Number) (j : Judged) → n ≤ 13 → formedBy key n text ≡ j → (handed (p .at) j .next ≡ 0 → ⊥) → plainNumbers v ≡ handed (p .at) j .values
-      → Meets s (judged j (λ row. none) (p .line) text) (record { good = true; refusal = Accepted; line = p .line + 1; at = handed (p .at) j .next }) (λ row. from 0 n v ≡ row .numbers)
-      × Fair s (record { good = true; refusal = Accepted; line = p .line + 1; at = handed (p .at) j .next })
+      → Meets s (judged j (λ row. none) (p .line) text) (record { kind = 0; field = 0; line = p .line + 1; at = handed (p .at) j .next }) (λ row. from 0 n v ≡ row .numbers)
+      × Fair s (record { kind = 0; field = 0; line = p .line + 1; at = handed (p .at) j .next })
   read-cases v (refused x) h q e w = absurd (e refl)
   read-cases v (values row size) h q e w =
       let f = in-form key n text row size q in
-      let g = r .fair good in
+      let g = r .fair yes in
       let b : length (upTo 10 text) < length text = ltb-true (length (upTo 10 text)) (length text) (f .within) in (
-        (record { good = refl; line = add-one (p .line); left = sym (drop-drop size (p .at) s) }, from-row v (row .numbers) n h (f .count) w),
-        record { refusal = refl; line = omega (arith, f .some, g .line); within = omega (arith, f .long, b, g .within, length-drop (p .at) s) },
+        (record { sound = refl; line = add-one (p .line); left = sym (drop-drop size (p .at) s) }, from-row v (row .numbers) n h (f .count) w),
+        record { field = refl; line = omega (arith, f .some, g .line); within = omega (arith, f .long, b, g .within, length-drop (p .at) s) },
       )
 
   pub due-read : (l : Line) (v : List Number) → n ≤ 13 → l ≡ lineAt s (p .at) key n → (l .next ≡ 0 → ⊥) → plainNumbers v ≡ l .values
-      → After s p (readForm key n) (record { good = true; refusal = Accepted; line = p .line + 1; at = l .next }) (λ row. from 0 n v ≡ row .numbers)
+      → After s p (readForm key n) (record { kind = 0; field = 0; line = p .line + 1; at = l .next }) (λ row. from 0 n v ≡ row .numbers)
   unfolding lineAt
   due-read l v h e z w =
       let c = read-cases v (formedBy key n text) h refl (λ x. z (ap (λ (y : Line). y .next) e ∙ x)) (w ∙ ap (λ (y : Line). y .values) e) in
-      rw e (record { reads = λ x. c .0; passes = λ x. not-both (p .good) good x; fair = λ x. c .1 })
+      rw e (record { reads = λ x. c .0; passes = λ x. not-both (good p) yes x; fair = λ x. c .1 })
 
-pub due-passed : {A : Type 0} (s : List ℕ) (p : Place) (m : Rattle.lines.specs.Reader.Reader A) (P : A → Type 0) → p .good ≡ false → After s p m p P
-due-passed s p m P e = record { reads = λ h. not-both (p .good) h e; passes = λ h. refl; fair = λ h. not-both (p .good) h e }
+pub due-passed : {A : Type 0} (s : List ℕ) (p : Place) (m : Rattle.lines.specs.Reader.Reader A) (P : A → Type 0) → good p ≡ false → After s p m p P
+due-passed s p m P e = record { reads = λ h. not-both (good p) h e; passes = λ h. refl; fair = λ h. not-both (good p) h e }

@@ -20,11 +20,11 @@ use Rattle.lines.specs.Reader.{stopped, got, judged, readLine}
 use Rattle.lines.proofs.Cases.{unless-values}
 use Rattle.line.proofs.Judgement.{numbers-many}
 use Rattle.entries.specs.declared.Place.{Place}
-use Rattle.entries.specs.Place.{refusedAt, Fair, Stands, Meets, After, ranged, ruled}
+use Rattle.entries.specs.Place.{good, refusedAt, Fair, Stands, Meets, After, ranged, ruled}
 use Rattle.quantity.specs.declared.Number.{Number}
 use Rattle.entries.specs.Taking.{from, faultOf, Taken}
 use Rattle.entries.specs.Form.{formOf}
-use Rattle.entries.proofs.Places.{not-both, after-weaker}
+use Rattle.entries.proofs.Places.{not-both, refused-bad, after-weaker}
 use Rattle.entries.proofs.Ranges.{fault-is, outside-some}
 
 -- ---- a line in form
@@ -62,7 +62,7 @@ in-form key n text row size e =
 
 -- ---- a test after a reading: a place q, or a refusal in line n where q is good and the test is met
 abbrev tested : ℕ → Place → Bool → Refusal → Place
-tested n q t r = cond (q .good && t) (refusedAt r n) q
+tested n q t r = cond (good q && t) (refusedAt r n) q
 
 module _ (n : ℕ) (q : Place) (r : Refusal) where
   pub met-both : (a b : Bool) → a ≡ true → b ≡ true → cond (a && b) (refusedAt r n) q ≡ refusedAt r n
@@ -79,20 +79,20 @@ module _ (n : ℕ) (q : Place) (r : Refusal) where
   not-good true b e = not-both true refl e
   not-good false b e = refl
 
-  pub good-test : (s : List ℕ) (u : Bool) → (q .good ≡ true → Fair s q) → cond u (refusedAt r n) q .good ≡ true → Fair s (cond u (refusedAt r n) q)
-  good-test s true h e = not-both false e refl
+  pub good-test : (s : List ℕ) (u : Bool) → (good q ≡ true → Fair s q) → good (cond u (refusedAt r n) q) ≡ true → Fair s (cond u (refusedAt r n) q)
+  good-test s true h e = not-both (good (refusedAt r n)) e (refused-bad r n)
   good-test s false h e = h e
 
 -- a reading whose row is then tested: where the test r is none, the row is kept, and else the line is refused
 module _ (s : List ℕ) (q : Place) (n : ℕ) (t : Bool) (x : Refusal) (P : Row → Type 0) where
   test-passed : (row : Row) (m : ℕ) (rest : List ℕ) → t ≡ false → Stands s q m rest → P row → Stands s (tested n q t x) m rest × P row
-  test-passed row m rest e w h = subst (λ (y : Place). Stands s y m rest × P row) (sym (not-met n q x (q .good) t e)) (w, h)
+  test-passed row m rest e w h = subst (λ (y : Place). Stands s y m rest × P row) (sym (not-met n q x (good q) t e)) (w, h)
 
   test-failed : (m : ℕ) (rest : List ℕ) → t ≡ true → Stands s q m rest → tested n q t x ≡ refusedAt x n
-  test-failed m rest e w = met-both n q x (q .good) t (w .good) e
+  test-failed m rest e w = met-both n q x (good q) t (w .sound) e
 
-  test-off : {r : Refusal} {m : ℕ} → q ≡ refusedAt r m → tested n q t x ≡ refusedAt r m
-  test-off e = not-good n q x (q .good) t (ap (λ (y : Place). y .good) e) ∙ e
+  test-off : (r : Refusal) (m : ℕ) → q ≡ refusedAt r m → tested n q t x ≡ refusedAt r m
+  test-off r m e = not-good n q x (good q) t (ap good e ∙ refused-bad r m) ∙ e
 
 -- ---- ranges
 module _ (s : List ℕ) (p q : Place) (l : Line) (P : Row → Type 0) (fault : ℕ) where
@@ -102,7 +102,7 @@ module _ (s : List ℕ) (p q : Place) (l : Line) (P : Row → Type 0) (fault : �
   range-cases : (n : ℕ) (text : List ℕ) (j : Judged) → formed l text ≡ j
       → ((row : Row) → P row → length (row .numbers) ≡ length (l .fields) → fault ≡ faultOf 1 (l .fields) (row .numbers))
       → Meets s (judged j (λ row. none) n text) q P → Meets s (judged (schema.ranged (l .fields) j) (λ row. none) n text) (ranged n q fault) InRange
-  range-cases n text (refused r) e f m = test-off s q n (not (eqb fault 0)) (Outside fault) P m
+  range-cases n text (refused r) e f m = test-off s q n (not (eqb fault 0)) (Outside fault) P r n m
   range-cases n text (values row size) e f m =
       here (outsideOf 1 (l .fields) (row .numbers)) refl (f row (m .1) (in-form (l .key ++ bytes "=") (length (l .fields)) text row size e .count) ∙ fault-is 1 (l .fields) (row .numbers))
     where
@@ -123,8 +123,8 @@ module _ (s : List ℕ) (p q : Place) (l : Line) (P : Row → Type 0) (fault : �
   unfolding readLine judge
   ranged-after f a = record {
     reads = λ h. range-cases (p .line) (drop (p .at) s) (formed l (drop (p .at) s)) refl f (a .reads h);
-    passes = λ h. let e = a .passes h in not-good (p .line) q (Outside fault) (q .good) (not (eqb fault 0)) (ap (λ (y : Place). y .good) e ∙ h) ∙ e;
-    fair = good-test (p .line) q (Outside fault) s (q .good && not (eqb fault 0)) (a .fair);
+    passes = λ h. let e = a .passes h in not-good (p .line) q (Outside fault) (good q) (not (eqb fault 0)) (ap (λ (y : Place). good y) e ∙ h) ∙ e;
+    fair = good-test (p .line) q (Outside fault) s (good q && not (eqb fault 0)) (a .fair);
   }
 
 -- ---- rules
@@ -134,7 +134,7 @@ module _ (s : List ℕ) (p q : Place) (l : Line) (P : Row → Type 0) (rule : Ro
 
   rule-cases : (n : ℕ) (text : List ℕ) (j : Judged) → ((row : Row) → P row → rule row ≡ when broken why)
       → Meets s (judged j (λ row. none) n text) q P → Meets s (judged j rule n text) (ruled n q broken why) Kept
-  rule-cases n text (refused r) f m = test-off s q n broken why P m
+  rule-cases n text (refused r) f m = test-off s q n broken why P r n m
   rule-cases n text (values row size) f m = here broken refl (rule row) refl
     where
       here : (t : Bool) → broken ≡ t → (o : Option Refusal) → rule row ≡ o → Meets s (on o (got row (suc n) (drop size text)) (λ r. stopped r n)) (ruled n q broken why) Kept
@@ -150,8 +150,8 @@ module _ (s : List ℕ) (p q : Place) (l : Line) (P : Row → Type 0) (rule : Ro
   unfolding readLine
   ruled-after f a = record {
     reads = λ h. rule-cases (p .line) (drop (p .at) s) (judge l (drop (p .at) s)) f (a .reads h);
-    passes = λ h. let e = a .passes h in not-good (p .line) q why (q .good) broken (ap (λ (y : Place). y .good) e ∙ h) ∙ e;
-    fair = good-test (p .line) q why s (q .good && broken) (a .fair);
+    passes = λ h. let e = a .passes h in not-good (p .line) q why (good q) broken (ap (λ (y : Place). good y) e ∙ h) ∙ e;
+    fair = good-test (p .line) q why s (good q && broken) (a .fair);
   }
 
 -- ---- THE QUANTITIES OF A LINE: its form was read, its quantities taken, and the first fault tested

@@ -1,5 +1,6 @@
 // One entry of the sheet after the other: from the place where a line is due, its quantities and the place after it, or the refusal.
 pub mod blocks;
+pub mod coded;
 pub mod gas;
 pub mod head;
 pub mod take;
@@ -11,10 +12,11 @@ ghost use Prim.Native.Nat.{_≤_};
 ghost use Rattle.entries.specs.Place.{refusedAt, Ready, ranged as rangedPlace, ruled as ruledPlace};
 ghost use Rattle.entries.specs.Form.{DueAfter};
 
-// Where the reading stands: before the line with a number, at a place of the text; or refused, with the line that was.
+// Where the reading stands: before the line with a number, at a place of the text; or refused, with the line that was. The kind is 0 for as
+// long as nothing is refused (`coded`).
 pub struct Place {
-    pub good: bool,
-    pub refusal: Refusal,
+    pub kind: usize,
+    pub field: usize,
     pub line: usize,
     pub at: usize,
 }
@@ -30,8 +32,8 @@ fn refused(refusal: Refusal, line: usize) -> Place
     ensures { λ r. ⌜ r ≡ refusedAt refusal line ⌝ }
 {
     Place {
-        good: false,
-        refusal,
+        kind: coded::kind_of(refusal),
+        field: coded::field_of(refusal),
         line,
         at: 0,
     }
@@ -43,7 +45,7 @@ pub fn due(s: &[u8], p: Place, key: &[u8], n: usize) -> LineDue
     requires { ⌜ Ready (now s) p ⌝ }
     ensures { λ r. ⌜ DueAfter (now (s .entry)) p (now (key .entry)) n r ⌝ }
 {
-    if p.good {
+    if p.kind == 0 {
         let at = p.at;
         let l = line::read_line(s, at, key, n);
         let v = l.values;
@@ -59,8 +61,8 @@ pub fn due(s: &[u8], p: Place, key: &[u8], n: usize) -> LineDue
         }
         return LineDue {
             place: Place {
-                good: true,
-                refusal: Refusal::Accepted,
+                kind: 0,
+                field: 0,
                 line: line + 1,
                 at: next,
             },
@@ -77,7 +79,7 @@ pub fn due(s: &[u8], p: Place, key: &[u8], n: usize) -> LineDue
 pub fn ranged(line: usize, q: Place, fault: usize) -> Place
     ensures { λ r. ⌜ r ≡ rangedPlace line q fault ⌝ }
 {
-    if q.good {
+    if q.kind == 0 {
         if fault != 0 {
             return refused(Refusal::Outside(fault), line);
         }
@@ -89,7 +91,7 @@ pub fn ranged(line: usize, q: Place, fault: usize) -> Place
 pub fn ruled(line: usize, q: Place, broken: bool, why: Refusal) -> Place
     ensures { λ r. ⌜ r ≡ ruledPlace line q broken why ⌝ }
 {
-    if q.good {
+    if q.kind == 0 {
         if broken {
             return refused(why, line);
         }

@@ -7,6 +7,7 @@ use native.Mathlib.Omega.{arith}
 use lib.ListN.{length, take, length-drop}
 use borrow.Author.Tests.{lt-ltb, le-ltb}
 use Rattle.sheet.specs.declared.Reading.{Reading}
+use Rattle.sheet.specs.declared.Refusal.{Refusal}
 use Rattle.sheet.specs.declared.Refusal.the-variants.{Accepted, TooLong, Surplus, Missing, GasTotal}
 use Rattle.sheet.specs.declared.Sheet.{Sheet as Sheetˢ}
 use Rattle.sheet.specs.Firing.{Firing, Stage}
@@ -24,9 +25,9 @@ use Rattle.walls.specs.Walls.{allRead}
 use Rattle.walls.proofs.Document.{missing-is}
 use Rattle.entries.specs.declared.Place.{Place}
 use Rattle.reader.specs.declared.whole.Outcome.{Outcome}
-use Rattle.entries.specs.Place.{Meets}
+use Rattle.entries.specs.Place.{good, reason, Meets}
 use Rattle.reader.specs.Whole.{Held, Sized, gasOf, judgedAs, rejectedAs, Answers}
-use Rattle.entries.proofs.Places.{not-both}
+use Rattle.entries.proofs.Places.{not-both, refused-bad, refused-why}
 
 map-twice : {A B C : Type 0} (g : B → C) (f : A → B) (l : List A) → map g (map f l) ≡ map (λ x. g (f x)) l
 map-twice g f [] = refl
@@ -62,17 +63,17 @@ module _ {x : Sheetˢ} {sheet : Sheet} (h : Held x sheet) (z : Sized x) where
       subst (λ (a : Answer). Answers a (judgedAs x)) (sym (ap₂ said-of gas read)) (rules (within gasTotal (gasOf x)) (allRead (x .readings) (x .sections .count .0) (x .stages .count .0)))
 
 module _ (s : List ℕ) (q : Place) (x : Sheetˢ) where
-  answer-refused : (r : Read Sheet) → Meets s r q (Held x) → q .good ≡ false → Answers (judgedWhole document01 r) (rejectedAs (q .refusal) (q .line))
-  answer-refused (stopped y n) m e = ap (λ (p : Place). rejectedAs (p .refusal) (p .line)) m
-  answer-refused (got sheet n rest) m e = not-both (q .good) (m .0 .good) e
+  answer-refused : (r : Read Sheet) → Meets s r q (Held x) → good q ≡ false → Answers (judgedWhole document01 r) (rejectedAs (reason q) (q .line))
+  answer-refused (stopped y n) m e = ap (λ (p : Place). rejectedAs (reason p) (p .line)) m ∙ ap (λ (x : Refusal). rejectedAs x n) (refused-why y n)
+  answer-refused (got sheet n rest) m e = not-both (good q) (m .0 .sound) e
 
-  answer-surplus : (r : Read Sheet) → Meets s r q (Held x) → q .good ≡ true → q .at < length s → Answers (judgedWhole document01 r) (rejectedAs Surplus (q .line))
-  answer-surplus (stopped y n) m e h = not-both (q .good) e (ap (λ (p : Place). p .good) m)
+  answer-surplus : (r : Read Sheet) → Meets s r q (Held x) → good q ≡ true → q .at < length s → Answers (judgedWhole document01 r) (rejectedAs Surplus (q .line))
+  answer-surplus (stopped y n) m e h = not-both (good q) e (ap good m ∙ refused-bad y n)
   answer-surplus (got sheet n []) m e h = absurd (omega (arith, length-drop (q .at) s, ap length (m .0 .left)))
   answer-surplus (got sheet n (b ∷ bs)) m e h = ap (rejectedAs Surplus) (m .0 .line)
 
-  answer-whole : (r : Read Sheet) → Meets s r q (Held x) → q .good ≡ true → length s ≤ q .at → Sized x → Answers (judgedWhole document01 r) (judgedAs x)
-  answer-whole (stopped y n) m e h z = not-both (q .good) e (ap (λ (p : Place). p .good) m)
+  answer-whole : (r : Read Sheet) → Meets s r q (Held x) → good q ≡ true → length s ≤ q .at → Sized x → Answers (judgedWhole document01 r) (judgedAs x)
+  answer-whole (stopped y n) m e h z = not-both (good q) e (ap good m ∙ refused-bad y n)
   answer-whole (got sheet n []) m e h z = whole-answer (m .1) z
   answer-whole (got sheet n (b ∷ bs)) m e h z = absurd (omega (arith, length-drop (q .at) s, ap length (m .0 .left)))
 
@@ -82,15 +83,15 @@ unfolding readOf
 too-long s h = rw (lt-ltb 16384 (length s) h)
 
 module _ (s : List ℕ) (short : length s ≤ 16384) (q : Place) (x : Sheetˢ) (m : Meets s (readLines document01 1 s) q (Held x)) where
-  pub refused-line : q .good ≡ false → Answers (readOf document01 s) (rejectedAs (q .refusal) (q .line))
+  pub refused-line : good q ≡ false → Answers (readOf document01 s) (rejectedAs (reason q) (q .line))
   unfolding readOf
   refused-line e = rw (le-ltb 16384 (length s) short) (answer-refused s q x (readLines document01 1 s) m e)
 
-  pub surplus : q .good ≡ true → q .at < length s → Answers (readOf document01 s) (rejectedAs Surplus (q .line))
+  pub surplus : good q ≡ true → q .at < length s → Answers (readOf document01 s) (rejectedAs Surplus (q .line))
   unfolding readOf
   surplus e h = rw (le-ltb 16384 (length s) short) (answer-surplus s q x (readLines document01 1 s) m e h)
 
-  pub whole-sheet : q .good ≡ true → length s ≤ q .at → Sized x → Answers (readOf document01 s) (judgedAs x)
+  pub whole-sheet : good q ≡ true → length s ≤ q .at → Sized x → Answers (readOf document01 s) (judgedAs x)
   unfolding readOf
   whole-sheet e h z = rw (le-ltb 16384 (length s) short) (answer-whole s q x (readLines document01 1 s) m e h z)
 

@@ -10,7 +10,7 @@ use lib.Seq.{take-suc-set, drop-drop, drop-set-lt}
 use Rattle.lines.specs.Schema.{Line, Row}
 use Rattle.lines.specs.Reader.{Sheet, Rule, filled, readLine, readRows}
 use Rattle.entries.specs.declared.Place.{Place}
-use Rattle.entries.specs.Place.{Fair, After}
+use Rattle.entries.specs.Place.{good, Fair, After}
 use Rattle.reader.specs.Filling.{Filled}
 use Rattle.entries.proofs.Places.{after-weaker}
 use Rattle.reader.proofs.Sequence.{block-start, block-more}
@@ -35,13 +35,13 @@ module _ {A B : Type 0} (view : A → B) (of : Row → B) (blank : A) (most : �
   filled-most {k} {lines} {rows} f = omega (arith, f .count, f .size, length-map rows of, ap length (f .shown), length-map (take k lines) view, length-take k lines)
 
   module _ (s : List ℕ) (l : Line) (rule : Rule) (seen : Sheet) where
-    pub filled-none : (p : Place) → (p .good ≡ true → Fair s p) → After s p (readRows 0 l rule seen []) p (Filled view of blank most 0 (replicate most blank))
+    pub filled-none : (p : Place) → (good p ≡ true → Fair s p) → After s p (readRows 0 l rule seen []) p (Filled view of blank most 0 (replicate most blank))
     filled-none p f = block-start s l rule seen p (Filled view of blank most 0 (replicate most blank)) none-filled f
 
     -- i lines have been read, and one more is: the code stores what it shows
     pub filled-next : (p q q′ : Place) (i : ℕ) (lines : List A) (x : A) → i < most → After s p (readRows i l rule seen []) q (Filled view of blank most i lines)
         → ((rows : List Row) → Filled view of blank most i lines rows → After s q (readLine l (rule (seen ++ filled l rows))) q′ (λ row. view x ≡ of row))
-        → (q .good ≡ false → q′ ≡ q) → (q′ .good ≡ true → Fair s q′) → After s p (readRows (i + 1) l rule seen []) q′ (Filled view of blank most (i + 1) (set lines i x))
+        → (good q ≡ false → q′ ≡ q) → (good q′ ≡ true → Fair s q′) → After s p (readRows (i + 1) l rule seen []) q′ (Filled view of blank most (i + 1) (set lines i x))
     filled-next p q q′ i lines x h a b g f =
         let F = Filled view of blank most i lines in
         let G = Filled view of blank most (i + 1) (set lines i x) in

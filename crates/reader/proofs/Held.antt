@@ -26,7 +26,7 @@ use Rattle.reader.specs.declared.parts.SettersPart.{SettersPart}
 use Rattle.reader.specs.declared.parts.PartsPart.{PartsPart}
 use Rattle.reader.specs.declared.parts.SectionsPart.{SectionsPart}
 use Rattle.reader.specs.declared.surface.WallRows.{WallRows}
-use Rattle.entries.specs.Place.{Fair, After}
+use Rattle.entries.specs.Place.{good, Fair, After}
 use Rattle.reader.specs.Filling.{Filled}
 use Rattle.reader.specs.Blank.{blankStage, blankSetter, blankPart, blankSection}
 use Rattle.entries.specs.Taking.{shares}
@@ -47,8 +47,8 @@ rows-back [] = refl
 rows-back (x ∷ S) = ap (λ (l : List Section). x ∷ l) (rows-back S)
 
 pub record Passes (s : List ℕ) (p q : Place) : Type 0 where
-  pub passes : p .good ≡ false → q ≡ p
-  pub fair : q .good ≡ true → Fair s q
+  pub passes : good p ≡ false → q ≡ p
+  pub fair : good q ≡ true → Fair s q
 
 pub walls-pass : (s : List ℕ) (p : Place) (S : List Section) (k : ℕ) (r : WallRows) → WallsRead s p S k r → Passes s p (r .place)
 walls-pass s p S k r h =
@@ -142,28 +142,28 @@ module _ (s : List ℕ) (e : EditionLine) (u : Upper) (l : Lower) (a : StagesPar
   abbrev Q : Sheet → Type 0
   Q = Held (sheetFrom u l a b c d w)
 
-  g7 : w .place .good ≡ false → z .place ≡ w .place
+  g7 : good (w .place) ≡ false → z .place ≡ w .place
   g7 = hz .passes
 
-  g6 : d .place .good ≡ false → z .place ≡ d .place
+  g6 : good (d .place) ≡ false → z .place ≡ d .place
   g6 = pass-on (walls-pass s (d .place) _ _ w hw .passes) g7
 
-  g5 : c .place .good ≡ false → z .place ≡ c .place
+  g5 : good (c .place) ≡ false → z .place ≡ c .place
   g5 = pass-on (hd .after [] refl .passes) g6
 
-  g4 : b .place .good ≡ false → z .place ≡ b .place
+  g4 : good (b .place) ≡ false → z .place ≡ b .place
   g4 = pass-on (hc [] .passes) g5
 
-  g3 : a .place .good ≡ false → z .place ≡ a .place
+  g3 : good (a .place) ≡ false → z .place ≡ a .place
   g3 = pass-on (hb [] .passes) g4
 
-  g2 : l .place .good ≡ false → z .place ≡ l .place
+  g2 : good (l .place) ≡ false → z .place ≡ l .place
   g2 = pass-on (ha .after [] .passes) g3
 
-  g1 : u .place .good ≡ false → z .place ≡ u .place
+  g1 : good (u .place) ≡ false → z .place ≡ u .place
   g1 = pass-on (hl [] .passes) g2
 
-  g0 : e .place .good ≡ false → z .place ≡ e .place
+  g0 : good (e .place) ≡ false → z .place ≡ e .place
   g0 = pass-on (hu [] .passes) g1
 
   -- the blocks and the last line, below rows that are known

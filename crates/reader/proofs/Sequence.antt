@@ -9,7 +9,7 @@ use lib.IntN.{pos, natAbs}
 use Rattle.lines.specs.Schema.{Line, Row}
 use Rattle.lines.specs.Reader.{Sheet, Rule, Part, one, many, countLine, Read, stopped, got, Reader, andThen, return, readLine, filled, readRows, readPart, readParts}
 use Rattle.entries.specs.declared.Place.{Place}
-use Rattle.entries.specs.Place.{Fair, After}
+use Rattle.entries.specs.Place.{good, Fair, After}
 use Rattle.reader.specs.Filling.{With}
 use Rattle.entries.specs.Form.{CountAfter}
 use Rattle.entries.proofs.Places.{after-bind, after-return, after-weaker}
@@ -30,14 +30,14 @@ module _ (s : List ℕ) (l : Line) (rule : Rule) (seen : Sheet) where
       here (stopped x m) ih = refl
       here (got row m t) ih = ih row m t
 
-  pub block-start : (p : Place) (P : List Row → Type 0) → P [] → (p .good ≡ true → Fair s p) → After s p (readRows 0 l rule seen []) p P
+  pub block-start : (p : Place) (P : List Row → Type 0) → P [] → (good p ≡ true → Fair s p) → After s p (readRows 0 l rule seen []) p P
   unfolding readRows
   block-start p P h f = after-return s p [] P h f
 
   -- i rows, and the line that is due after them
   pub block-more : (p q q′ : Place) (i : ℕ) (P Q : List Row → Type 0) → After s p (readRows i l rule seen []) q P
       → ((rows : List Row) → P rows → After s q (readLine l (rule (seen ++ filled l rows))) q′ (λ row. Q (rows ++ (row ∷ []))))
-      → (q .good ≡ false → q′ ≡ q) → (q′ .good ≡ true → Fair s q′) → After s p (readRows (suc i) l rule seen []) q′ Q
+      → (good q ≡ false → q′ ≡ q) → (good q′ ≡ true → Fair s q′) → After s p (readRows (suc i) l rule seen []) q′ Q
   block-more p q q′ i P Q a b g f =
       let w = after-bind s p q q′ (readRows i l rule seen []) oneMore P Q a
       (λ rows h. after-bind s q q′ q′ (readLine l (rule (seen ++ filled l rows))) (λ row. return (rows ++ (row ∷ []))) (λ row. Q (rows ++ (row ∷ []))) Q
@@ -73,13 +73,13 @@ count-after {s} {p} {q} {key} {a} {b} {count} h =
     after-weaker s p q (readLine (countLine key a b) (λ row. none)) (λ row. pos count ≡ getD (row .numbers) 0 (pos 0)) (λ row. count ≡ natAbs (getD (row .numbers) 0 (pos 0))) (λ row e. ap natAbs e) (h .after)
 
 -- a refused place passes through two readings
-pub pass-on : {p q r : Place} → (p .good ≡ false → q ≡ p) → (q .good ≡ false → r ≡ q) → p .good ≡ false → r ≡ p
-pass-on f g e = let h = f e in g (ap (λ (x : Place). x .good) h ∙ e) ∙ h
+pub pass-on : {p q r : Place} → (good p ≡ false → q ≡ p) → (good q ≡ false → r ≡ q) → good p ≡ false → r ≡ p
+pass-on f g e = let h = f e in g (ap (λ (x : Place). good x) h ∙ e) ∙ h
 
 module _ (s : List ℕ) (l : Line) (rule : Rule) (ps : List Part) (seen : Sheet) (Q : Sheet → Type 0) where
   -- a line, then the parts below it
   pub then-line : (p q q′ : Place) (P : Row → Type 0) → After s p (readLine l (rule (seen ++ filled l []))) q P
-      → ((row : Row) → P row → After s q (readParts ps (seen ++ filled l (row ∷ []))) q′ Q) → (q .good ≡ false → q′ ≡ q) → (q′ .good ≡ true → Fair s q′)
+      → ((row : Row) → P row → After s q (readParts ps (seen ++ filled l (row ∷ []))) q′ Q) → (good q ≡ false → q′ ≡ q) → (good q′ ≡ true → Fair s q′)
       → After s p (readParts (one l rule ∷ ps) seen) q′ Q
   unfolding readParts
   then-line p q q′ P a k g f =
@@ -91,7 +91,7 @@ module _ (s : List ℕ) (l : Line) (rule : Rule) (ps : List Part) (seen : Sheet)
 -- a part whose rows are known, then the parts below it
 pub then-part : (s : List ℕ) (part : Part) (l : Line) (ps : List Part) (seen : Sheet) (Q : Sheet → Type 0) (p q q′ : Place) (P : List Row → Type 0)
     → After s p (readPart part seen) q (With l seen P) → ((rows : List Row) → P rows → After s q (readParts ps (seen ++ filled l rows)) q′ Q)
-    → (q .good ≡ false → q′ ≡ q) → (q′ .good ≡ true → Fair s q′) → After s p (readParts (part ∷ ps) seen) q′ Q
+    → (good q ≡ false → q′ ≡ q) → (good q′ ≡ true → Fair s q′) → After s p (readParts (part ∷ ps) seen) q′ Q
 unfolding readParts
 then-part s part l ps seen Q p q q′ P a k g f =
     after-bind s p q q′ (readPart part seen) (readParts ps) (With l seen P) Q a
@@ -109,11 +109,11 @@ parts-split (p ∷ ps) qs seen n t = here (readPart p seen n t) (λ sheet m u. p
     here (got sheet m u) ih = ih sheet m u
 
 pub then-parts : (s : List ℕ) (ps qs : List Part) (seen : Sheet) (p q q′ : Place) (P Q : Sheet → Type 0) → After s p (readParts ps seen) q P
-    → ((sheet : Sheet) → P sheet → After s q (readParts qs sheet) q′ Q) → (q .good ≡ false → q′ ≡ q) → (q′ .good ≡ true → Fair s q′) → After s p (readParts (ps ++ qs) seen) q′ Q
+    → ((sheet : Sheet) → P sheet → After s q (readParts qs sheet) q′ Q) → (good q ≡ false → q′ ≡ q) → (good q′ ≡ true → Fair s q′) → After s p (readParts (ps ++ qs) seen) q′ Q
 then-parts s ps qs seen p q q′ P Q a k g f =
     let w = after-bind s p q q′ (readParts ps seen) (readParts qs) P Q a k g f in
     record { reads = λ h. rw (parts-split ps qs seen (p .line) (drop (p .at) s)) (w .reads h); passes = w .passes; fair = w .fair }
 
-pub parts-done : (s : List ℕ) (q : Place) (seen : Sheet) (Q : Sheet → Type 0) → Q seen → (q .good ≡ true → Fair s q) → After s q (readParts [] seen) q Q
+pub parts-done : (s : List ℕ) (q : Place) (seen : Sheet) (Q : Sheet → Type 0) → Q seen → (good q ≡ true → Fair s q) → After s q (readParts [] seen) q Q
 unfolding readParts
 parts-done s q seen Q h f = after-return s q seen Q h f

@@ -31,12 +31,12 @@ use Rattle.walls.proofs.Rulings.{said}
 use Rattle.entries.specs.declared.Place.{Place}
 use Rattle.reader.specs.declared.surface.WallLine.{WallLine}
 use Rattle.entries.specs.declared.take.Wall.{Wall as Wallˢ}
-use Rattle.entries.specs.Place.{refusedAt, Fair, After}
+use Rattle.entries.specs.Place.{good, refusedAt, Fair, After}
 use Rattle.reader.specs.Surface.{lacks, WallAfter, WallsShown, settled}
 use Rattle.entries.specs.Taking.{wall}
 use Rattle.reader.proofs.Above.{rows-here, rows-other}
 use Rattle.entries.proofs.Lines.{Kept, ruled-after, not-good, good-test}
-use Rattle.entries.proofs.Places.{not-both, after-weaker, after-refused}
+use Rattle.entries.proofs.Places.{not-both, refused-bad, after-weaker, after-refused}
 use Rattle.reader.proofs.Sequence.{block-more}
 
 -- where no rule is broken the section is listed
@@ -53,13 +53,13 @@ none-said r e = here (r .broken) e
     here false e = refl
 
 -- a place that is good after its rule was looked at broke none
-pub good-unbroken : (n : ℕ) (q : Place) (r : Ruling) → settled n q r .good ≡ true → r .broken ≡ false
-good-unbroken n q r e = here (q .good) (r .broken) refl refl e
+pub good-unbroken : (n : ℕ) (q : Place) (r : Ruling) → good (settled n q r) ≡ true → r .broken ≡ false
+good-unbroken n q r e = here (good q) (r .broken) refl refl e
   where
-    here : (a b : Bool) → q .good ≡ a → r .broken ≡ b → cond (a && b) (refusedAt (r .why) n) q .good ≡ true → b ≡ false
+    here : (a b : Bool) → good q ≡ a → r .broken ≡ b → good (cond (a && b) (refusedAt (r .why) n) q) ≡ true → b ≡ false
     here a false u w e = refl
-    here true true u w e = clash cc
-    here false true u w e = not-both (q .good) e u
+    here true true u w e = not-both (good (refusedAt (r .why) n)) e (refused-bad (r .why) n)
+    here false true u w e = not-both (good q) e u
 
 -- the ruling on a wall, by the sections, the number of stages and the cells above it
 abbrev ruling-at : List Section → ℕ → List Reading → Wall → Ruling
@@ -74,11 +74,11 @@ agree p q r t = rw (p, q, r, t)
 pub unbroken-place : (S : List Section) (k : ℕ) (cells : List Reading) (w : Wallˢ) → rule-on S k cells w .broken ≡ false → before (pos (w .section .0)) S < length S
 unbroken-place S k cells w e = ltb-true (before (pos (w .section .0)) S) (length S) (unbroken-listed _ _ _ _ e)
 
-settled-passes : {s : List ℕ} (q : Place) (l : WallLine) (r : Ruling) → WallAfter s q l → q .good ≡ false → settled (q .line) (l .place) r ≡ q
-settled-passes q l r b h = let e = b .after .passes h in not-good (q .line) (l .place) (r .why) (l .place .good) (r .broken) (ap (λ (y : Place). y .good) e ∙ h) ∙ e
+settled-passes : {s : List ℕ} (q : Place) (l : WallLine) (r : Ruling) → WallAfter s q l → good q ≡ false → settled (q .line) (l .place) r ≡ q
+settled-passes q l r b h = let e = b .after .passes h in not-good (q .line) (l .place) (r .why) (good (l .place)) (r .broken) (ap (λ (y : Place). good y) e ∙ h) ∙ e
 
-pub settled-fair : {s : List ℕ} (q : Place) (l : WallLine) (r : Ruling) → WallAfter s q l → settled (q .line) (l .place) r .good ≡ true → Fair s (settled (q .line) (l .place) r)
-settled-fair {s} q l r b = good-test (q .line) (l .place) (r .why) s (l .place .good && r .broken) (b .after .fair)
+pub settled-fair : {s : List ℕ} (q : Place) (l : WallLine) (r : Ruling) → WallAfter s q l → good (settled (q .line) (l .place) r) ≡ true → Fair s (settled (q .line) (l .place) r)
+settled-fair {s} q l r b = good-test (q .line) (l .place) (r .why) s (good (l .place) && r .broken) (b .after .fair)
 
 module _ (s : List ℕ) (S : List Section) (k : ℕ) (few : length S ≤ 12) (seen : Sheet) (none-yet : lacks (bytes "wall") seen ≡ true) (above : map sectionOf (sections seen) ≡ S) (so-many : length (stages seen) ≡ k) where
   stage-in : (w : Wallˢ) → 1 ≤ w .stage .0 → w .stage .0 ≤ 12 → In stageNumber (pos (w .stage .0))
@@ -125,7 +125,7 @@ module _ (s : List ℕ) (S : List Section) (k : ℕ) (few : length S ≤ 12) (se
 
   -- where the line was refused the cells stay as they were, and of what was read nothing is said
   pub next : (p q : Place) (l : WallLine) (i : ℕ) (cells cells′ : List Reading) → After s p (readRows i wallLine wall-rule seen []) q (WallsShown S cells) → WallAfter s q l
-      → (settled (q .line) (l .place) (rule-on S k cells (l .wall)) .good ≡ true → cells′ ≡ set cells (cell S (wall (l .wall))) (reading (wall (l .wall))))
+      → (good (settled (q .line) (l .place) (rule-on S k cells (l .wall))) ≡ true → cells′ ≡ set cells (cell S (wall (l .wall))) (reading (wall (l .wall))))
       → After s p (readRows (i + 1) wallLine wall-rule seen []) (settled (q .line) (l .place) (rule-on S k cells (l .wall))) (WallsShown S cells′)
   next p q l i cells cells′ a b same =
       let w = l .wall in
@@ -133,9 +133,9 @@ module _ (s : List ℕ) (S : List Section) (k : ℕ) (few : length S ≤ 12) (se
       let cells″ = set cells (cell S (wall w)) (reading (wall w)) in
       let done : After s p (readRows (i + 1) wallLine wall-rule seen []) q′ (WallsShown S cells″) =
       rw (add-one i) (block-more s wallLine wall-rule seen p q q′ i (WallsShown S cells) (WallsShown S cells″) a (λ rows shown. ruled-wall q l cells rows shown b) (settled-passes q l (rule-on S k cells w) b) (settled-fair q l (rule-on S k cells w) b)) in
-      either (q′ .good) refl done
+      either (good q′) refl done
     where
-      either : (t : Bool) → settled (q .line) (l .place) (rule-on S k cells (l .wall)) .good ≡ t
+      either : (t : Bool) → good (settled (q .line) (l .place) (rule-on S k cells (l .wall))) ≡ t
           → After s p (readRows (i + 1) wallLine wall-rule seen []) (settled (q .line) (l .place) (rule-on S k cells (l .wall))) (WallsShown S (set cells (cell S (wall (l .wall))) (reading (wall (l .wall)))))
           → After s p (readRows (i + 1) wallLine wall-rule seen []) (settled (q .line) (l .place) (rule-on S k cells (l .wall))) (WallsShown S cells′)
       either true e x = rw (same e) x

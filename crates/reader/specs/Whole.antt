@@ -33,7 +33,7 @@ headOf u l = record { firing = u .firing; product = u .product; ambient = u .amb
 
 -- before the first line
 abbrev pub top : Place
-top = record { good = true; refusal = Accepted; line = 1; at = 0 }
+top = record { kind = 0; field = 0; line = 1; at = 0 }
 
 -- the counts are within their arrays, beyond which nothing could be shown, and beyond their counts the blocks are blank
 pub record Trimmed (x : Sheetˢ) : Type 0 where

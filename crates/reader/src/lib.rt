@@ -9,6 +9,7 @@ mod whole;
 use crate::whole::all_lines;
 use crate::whole::judged;
 use crate::whole::rejected;
+use entries::coded::refusal_of;
 use sheet::Refusal;
 pub use whole::Outcome;
 ghost use Rattle.lines.specs.Document01.{document01};
@@ -26,13 +27,13 @@ pub fn read(s: &[u8]) -> Outcome
     let l = all_lines(s);
     let p = l.place;
     let line = p.line;
-    if p.good {
+    if p.kind == 0 {
         if p.at < n {
             return rejected(Refusal::Surplus, line);
         }
         let sheet = l.sheet;
         return judged(sheet);
     }
-    let why = p.refusal;
+    let why = refusal_of(p.kind, p.field);
     rejected(why, line)
 }

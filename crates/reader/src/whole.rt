@@ -65,8 +65,8 @@ pub fn all_lines(s: &[u8]) -> Lines
     ensures { λ r. ⌜ LinesRead (now (s .entry)) r ⌝ }
 {
     let start = Place {
-        good: true,
-        refusal: Refusal::Accepted,
+        kind: 0,
+        field: 0,
         line: 1,
         at: 0,
     };

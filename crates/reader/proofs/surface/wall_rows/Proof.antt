@@ -20,10 +20,10 @@ use Rattle.walls.proofs.Sections.{before-most}
 use Rattle.walls.proofs.Readings.{read-is}
 use Rattle.entries.specs.declared.Place.{Place}
 use Rattle.reader.specs.declared.surface.WallLine.{WallLine}
-use Rattle.entries.specs.Place.{Ready}
+use Rattle.entries.specs.Place.{good, Ready}
 use Rattle.reader.specs.Surface.{WallsShown, WallsAfter, settled}
 use Rattle.entries.specs.Taking.{wall}
-use Rattle.entries.proofs.Places.{not-both}
+use Rattle.entries.proofs.Places.{not-both, is-good, is-bad}
 use Rattle.reader.proofs.Sequence.{block-start}
 use Rattle.reader.proofs.Walls.{rule-on, good-unbroken, unbroken-place, settled-fair, next}
 use Rattle.reader.proofs.surface.wall_rows.Statement.{statement}
@@ -53,10 +53,10 @@ found sections count stages cells l line j read q′ h e r a =
 
 -- where the place that follows is good, the section is listed
 found-below : {sections : List Sectionˢ} {count stages : ℕ} {cells : List Reading} {l : WallLine} {line j : ℕ} {q′ : Place} → count ≤ length sections
-    → Found sections count stages cells l line j q′ → q′ .good ≡ true → j < count
+    → Found sections count stages cells l line j q′ → good q′ ≡ true → j < count
 found-below {sections} {count} {stages} {cells} {l} {line} {j} {q′} h f g =
     let S = shown sections count in
-    let b = good-unbroken line (l .place) (rule-on S stages cells (l .wall)) (sym (ap (λ (p : Place). p .good) (f .after)) ∙ g) in
+    let b = good-unbroken line (l .place) (rule-on S stages cells (l .wall)) (sym (ap good (f .after)) ∙ g) in
     omega (arith, unbroken-place S stages cells (l .wall) b, f .place, count-is sections count h)
 
 abbrev Inv-loop : tie.InvT-loop
@@ -103,7 +103,7 @@ array-copy-out-there c = omega (arith, c .looked-up .ensures)
 
 loop-again : tie.Need-loop-again Inv-loop μ-loop
 loop-again c =
-    let b = c .before in
+    let b = c .before .before in
     let l = b .before .before .before .before .before .before .before .before .before .before .wall-line in
     let j = b .before .before .before .before .before .before .section-place in
     let at = b .before .before .before .before .before .before .before .before .before .before .before .before .loop in
@@ -113,10 +113,10 @@ loop-again c =
     let few : length S ≤ 12 = omega (arith, at .inv .1, count-is (a .sections) (a .count) (at .inv .2)) in
     let f = found (a .sections) (a .count) (a .stages) (at .readings) (l .result) (at .p .line) (j .result) (b .before .before .is-read .result) (b .wall-place .result) (at .inv .2) (j .ensures) (read-is (at .readings) _ _ _ (at .inv .3) (b .before .before .before .before .looked-up .ensures) (b .before .before .is-read .ensures)) (b .wall-place .ensures) in
     let r = rule-on S (a .stages) (at .readings) (l .result .wall) in
-    let stored : (settled (at .p .line) (l .result .place) r .good ≡ true → c .if1 .readings ≡ set (at .readings) (cell S (wall (l .result .wall))) (reading (wall (l .result .wall)))) × (length (c .if1 .readings) ≡ 144) =
+    let stored : (good (settled (at .p .line) (l .result .place) r) ≡ true → c .if1 .readings ≡ set (at .readings) (cell S (wall (l .result .wall))) (reading (wall (l .result .wall)))) × (length (c .if1 .readings) ≡ 144) =
     ⊎-elim
     (λ w. (λ g. w .2 ∙ ap₂ (λ (k : ℕ) (x : Reading). set (at .readings) (k * 12 + (l .result .wall .stage .0 - 1)) x) (f .place) (w .1 .ensures), rw (w .2) (simp length-set (at .inv .3))))
-    (λ w. (λ g. not-both (b .wall-place .result .good) (ap (λ (p : Place). p .good) (f .after) ∙ g) (w .0 .left), rw (w .1) (at .inv .3)))
+    (λ w. (λ g. not-both (good (b .wall-place .result)) (ap good (f .after) ∙ g) (is-bad (b .wall-place .result) (w .0 .left)), rw (w .1) (at .inv .3)))
     (c .if1 .came) in
     let more = b .before .before .before .before .before .before .before .before .before .before .before .loop-test .taken in (
       omega arith,
@@ -129,7 +129,7 @@ loop-again c =
 
 mul-readings : tie.Need-mul-readings Inv-loop μ-loop
 mul-readings c =
-    let b = c .before .before in
+    let b = c .before .before .before in
     let j = b .before .before .before .before .before .before .section-place in
     let at = b .before .before .before .before .before .before .before .before .before .before .before .before in
     let a = at .before .before .before .args in
@@ -139,13 +139,13 @@ mul-readings c =
 
 array-set-from-readings : tie.Need-array-set-from-readings Inv-loop μ-loop
 array-set-from-readings c =
-    let b = c .before .before in
+    let b = c .before .before .before in
     let l = b .before .before .before .before .before .before .before .before .before .before .wall-line in
     let j = b .before .before .before .before .before .before .section-place in
     let at = b .before .before .before .before .before .before .before .before .before .before .before .before in
     let a = at .before .before .before .args in
     let f = found (a .sections) (a .count) (a .stages) (at .loop .readings) (l .result) (at .loop .p .line) (j .result) (b .before .before .is-read .result) (b .wall-place .result) (at .loop .inv .2) (j .ensures) (read-is (at .loop .readings) _ _ _ (at .loop .inv .3) (b .before .before .before .before .looked-up .ensures) (b .before .before .is-read .ensures)) (b .wall-place .ensures) in
-    let k : j .result < a .count = found-below (at .loop .inv .2) f (c .before .if1 .taken) in
+    let k : j .result < a .count = found-below (at .loop .inv .2) f (is-good (b .wall-place .result) (c .before .if1 .taken)) in
     let m = l .ensures .most in
     omega (arith, at .loop .inv .1)
 
