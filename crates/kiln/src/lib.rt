@@ -31,22 +31,21 @@ fn refused(why: Refusal, line: usize) -> Answer
     }
 }
 
-// The report at the front of the room, if it fits. Its figures and its length are known before the first byte is written.
+// The report at the front of the room, if it fits. Its figures are known, and that it has room, before the first byte is written.
 fn reported(figures: [i64; 20], room: &mut [u8]) -> Answer
     ensures { λ r. ⌜ r ≡ fitted (linesText keys figures) (length (now (room .entry))) ⌝ }
     ensures { λ _. ⌜ now (room .exit) ≡ placed (linesText keys figures) (now (room .entry)) ⌝ }
     ensures { λ _. ⌜ length (linesText keys figures) ≤ 600 ⌝ }
 {
-    let n = report::length(figures);
-    if room.len() < n {
-        return refused(Refusal::NoRoom, 0);
+    if report::fits(figures, room.len()) {
+        let length = report::write(room, figures);
+        return Answer {
+            refusal: 0,
+            line: 0,
+            length,
+        };
     }
-    let length = report::write(room, figures);
-    Answer {
-        refusal: 0,
-        line: 0,
-        length,
-    }
+    refused(Refusal::NoRoom, 0)
 }
 
 // The answer, and that a report is short.

@@ -1,3 +1,4 @@
 pub mod Printing
+pub mod Room
 pub mod Keys
 pub mod Lines

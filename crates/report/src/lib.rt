@@ -5,5 +5,5 @@ mod writing;
 pub use joules::figures;
 pub use joules::of_fuel;
 pub use joules::per_tonne;
-pub use writing::length;
+pub use writing::fits;
 pub use writing::write;

@@ -2,6 +2,7 @@
 ghost use mathlib.Core.Path.{_≡_};
 ghost use Prim.Native.Nat.{_+_, _≤_, _<_};
 ghost use mathlib.Core.List.{[]};
+ghost use lib.Dec.{leb};
 ghost use lib.ListN.{length, getD};
 ghost use Rattle.text.specs.Decimal.{line};
 ghost use Rattle.text.specs.Writing.{Written};
@@ -57,7 +58,7 @@ fn line_at(out: &mut [u8], at: usize, i: usize, figure: i64) -> usize
 }
 
 // How long the report is; no report is longer than 600 bytes.
-pub fn length(figures: [i64; 20]) -> usize
+fn length(figures: [i64; 20]) -> usize
     ensures { λ r. ⌜ r ≡ length (linesText keys figures) ⌝ }
     ensures { λ r. ⌜ r ≤ 600 ⌝ }
 {
@@ -68,6 +69,17 @@ pub fn length(figures: [i64; 20]) -> usize
         i += 1;
     }
     n
+}
+
+// Whether the report has room, which need not be measured where any report has.
+pub fn fits(figures: [i64; 20], room: usize) -> bool
+    ensures { λ r. ⌜ r ≡ leb (length (linesText keys figures)) room ⌝ }
+    ensures { λ _. ⌜ length (linesText keys figures) ≤ 600 ⌝ }
+{
+    if 600 <= room {
+        return true;
+    }
+    length(figures) <= room
 }
 
 // Puts the report at the front, and answers how long it is.
