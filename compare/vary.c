@@ -1,0 +1,286 @@
+/* Changes to a draft of a sheet, and what makes it keep the rules again.
+ *
+ * Bytes changed at random seldom pass the form of a line, and a sheet with one number changed seldom keeps the rules that tie lines to each
+ * other. Both are left to chance here too, but to a chance that is not small.
+ */
+#include "draft.h"
+
+#include <string.h>
+
+uint64_t thrown(struct dice *dice, uint64_t sides)
+{
+    dice->state += 0x9e3779b97f4a7c15;
+    uint64_t mixed = (dice->state ^ dice->state >> 30) * 0xbf58476d1ce4e5b9;
+    mixed = (mixed ^ mixed >> 27) * 0x94d049bb133111eb;
+    return (mixed ^ mixed >> 31) % sides;
+}
+
+static long within(struct span span, struct dice *dice)
+{
+    return span.least + (long)thrown(dice, (uint64_t)(span.most - span.least) + 1);
+}
+
+/* Numbers at which something changes: breaks, limits of other fields, counts, lengths of numbers. */
+static const long breaks[] = {0, 1, -1, 2, 12, 13, 18, 19, 32, 33, 48, 49, 99, 100, 101, 199, 200, 210, 999, 1000, 7999, 8000, 8001,
+                              9999, 10000, 10001, 200000, 200001, 999999, 1000000, 999999999, 1000000000, -200, -201, -999999999};
+
+/* Halves are met where factors of 2 and 5 come together. */
+static const long steps[] = {2, 4, 5, 8, 16, 25, 32, 50, 64, 100, 125, 250, 500, 625, 1000, 1250, 2500, 3125, 5000, 10000};
+
+static long another(long old, struct span span, struct dice *dice)
+{
+    switch (thrown(dice, 16)) {
+    case 0:
+        return span.least;
+    case 1:
+        return span.most;
+    case 2:
+        return span.least + (long)thrown(dice, 3) - 1;
+    case 3:
+        return span.most + (long)thrown(dice, 3) - 1;
+    case 4:
+        return breaks[thrown(dice, sizeof breaks / sizeof *breaks)];
+    case 5:
+    case 6:
+        return old + (long)thrown(dice, 7) - 3;
+    case 7:
+        return thrown(dice, 2) ? old * 2 : old / 2;
+    case 8:
+        return thrown(dice, 2) ? old * 10 : -old;
+    case 9:
+        return span.most >> thrown(dice, 30);
+    case 10:
+    case 11:
+    case 12: {
+        long step = steps[thrown(dice, sizeof steps / sizeof *steps)];
+        return within(span, dice) / step * step;
+    }
+    default:
+        return within(span, dice);
+    }
+}
+
+static void fresh_row(long *row, enum kind kind, struct dice *dice)
+{
+    for (size_t field = 0; field < forms[kind].fields; field++)
+        row[field] = within(forms[kind].span[field], dice);
+}
+
+static enum kind some_block(struct dice *dice)
+{
+    static const enum kind blocks[] = {STAGE, SETTER, PART, SECTION, WALL};
+    return blocks[thrown(dice, 5)];
+}
+
+static void change_block(struct draft *draft, struct dice *dice)
+{
+    enum kind kind = some_block(dice);
+    long(*row)[FIELDS_MOST] = draft->value[kind];
+    size_t *rows = &draft->rows[kind];
+    size_t one = *rows ? thrown(dice, *rows) : 0, other = *rows ? thrown(dice, *rows) : 0;
+    switch (thrown(dice, 8)) {
+    case 0:
+        if (*rows)
+            memmove(row[one], row[one + 1], (--*rows - one) * sizeof *row);
+        break;
+    case 1: {
+        long kept[FIELDS_MOST];
+        memcpy(kept, row[one], sizeof kept);
+        memcpy(row[one], row[other], sizeof kept);
+        memcpy(row[other], kept, sizeof kept);
+        break;
+    }
+    case 2:
+        if (*rows)
+            row[one][thrown(dice, forms[kind].fields)] = row[other][thrown(dice, forms[kind].fields)];
+        break;
+    case 3:
+        for (size_t most = (size_t)within(forms[kind - 1].span[0], dice); *rows < most;)
+            fresh_row(row[(*rows)++], kind, dice);
+        break;
+    case 4:
+        if (*rows)
+            *rows = 1 + thrown(dice, *rows);
+        break;
+    case 5:
+        if (*rows && *rows < ROWS_MOST)
+            memcpy(row[(*rows)++], row[one], sizeof *row);
+        break;
+    default:
+        if (*rows < ROWS_MOST)
+            fresh_row(row[(*rows)++], kind, dice);
+    }
+}
+
+/* A gas of one, two or three kinds, or of all. */
+static void change_gas(long *share, struct dice *dice)
+{
+    if (thrown(dice, 4) == 0) {
+        for (size_t gas = 0; gas < 13; gas++)
+            share[gas] = (long)thrown(dice, 1500);
+        return;
+    }
+    memset(share, 0, FIELDS_MOST * sizeof *share);
+    for (uint64_t kinds = 1 + thrown(dice, 3); kinds > 0; kinds--)
+        share[thrown(dice, 13)] = (long)thrown(dice, kinds == 1 ? 10001 : 5001);
+}
+
+void change_draft(struct draft *draft, struct dice *dice)
+{
+    uint64_t way = thrown(dice, 16);
+    if (way == 0) {
+        change_gas(draft->value[GAS][0], dice);
+        return;
+    }
+    if (way < 4) {
+        change_block(draft, dice);
+        return;
+    }
+    enum kind kind = thrown(dice, 2) ? (enum kind)thrown(dice, KINDS) : some_block(dice);
+    if (draft->rows[kind] == 0)
+        return;
+    long *row = draft->value[kind][thrown(dice, draft->rows[kind])];
+    long *value = &row[thrown(dice, forms[kind].fields)];
+    if (way == 4)
+        fresh_row(row, kind, dice);
+    else
+        *value = bounded(another(*value, forms[kind].span[value - row], dice));
+}
+
+static void repair_limits(struct draft *draft)
+{
+    for (enum kind kind = SHEET; kind < KINDS; kind++) {
+        if (counted(kind) && (long)draft->rows[kind] > forms[kind - 1].span[0].most)
+            draft->rows[kind] = (size_t)forms[kind - 1].span[0].most;
+        for (size_t row = 0; row < draft->rows[kind]; row++)
+            for (size_t field = 0; field < forms[kind].fields; field++) {
+                long *value = &draft->value[kind][row][field];
+                struct span span = forms[kind].span[field];
+                *value = *value < span.least ? span.least : *value > span.most ? span.most : *value;
+            }
+    }
+}
+
+static void repair_material(struct draft *draft, enum kind kind, size_t material, size_t capacity)
+{
+    for (size_t row = 0; row < draft->rows[kind]; row++) {
+        long *value = draft->value[kind][row];
+        if (value[material] != 0)
+            value[capacity] = 0;
+        else if (value[capacity] == 0)
+            value[capacity] = 10000;
+    }
+}
+
+static void repair_gas(long *share)
+{
+    long sum = 0;
+    for (size_t gas = 0; gas < 13; gas++)
+        sum += share[gas];
+    for (size_t gas = 0; gas < 13 && sum > 10000; gas++) {
+        long less = sum - 10000 < share[gas] ? sum - 10000 : share[gas];
+        share[gas] -= less;
+        sum -= less;
+    }
+    /* methane takes the rest, so that there is something to burn */
+    share[6] += 10000 - sum;
+}
+
+static void repair_sections(struct draft *draft)
+{
+    for (size_t row = 0; row < draft->rows[SECTION]; row++)
+        for (size_t other = 0; other < row; other++)
+            if (draft->value[SECTION][other][0] == draft->value[SECTION][row][0]) {
+                draft->value[SECTION][row][0] = draft->value[SECTION][row][0] % 999 + 1;
+                /* the next number may be taken as well */
+                other = (size_t)-1;
+            }
+}
+
+/* Each section is read once in each stage: what is read twice or nowhere is put where a reading is missing. */
+static void repair_walls(struct draft *draft, struct dice *dice)
+{
+    bool read[ROWS_MOST][ROWS_MOST + 1] = {{false}};
+    bool idle[ROWS_MOST];
+    size_t stages = draft->rows[STAGE], sections = draft->rows[SECTION], wall = 0;
+    if (stages * sections > 48)
+        sections = draft->rows[SECTION] = 48 / stages;
+    for (size_t row = 0; row < draft->rows[WALL]; row++) {
+        long *value = draft->value[WALL][row];
+        size_t section = 0;
+        while (section < sections && draft->value[SECTION][section][0] != value[0])
+            section++;
+        idle[row] = section == sections || value[1] < 1 || value[1] > (long)stages || read[section][value[1]];
+        if (!idle[row])
+            read[section][value[1]] = true;
+    }
+    for (size_t section = 0; section < sections; section++)
+        for (size_t stage = 1; stage <= stages; stage++) {
+            if (read[section][stage])
+                continue;
+            while (wall < draft->rows[WALL] && !idle[wall])
+                wall++;
+            if (wall == draft->rows[WALL])
+                fresh_row(draft->value[WALL][draft->rows[WALL]++], WALL, dice);
+            draft->value[WALL][wall][0] = draft->value[SECTION][section][0];
+            draft->value[WALL][wall][1] = (long)stage;
+            idle[wall++] = false;
+        }
+    size_t kept = 0;
+    for (size_t row = 0; row < draft->rows[WALL]; row++)
+        if (!idle[row])
+            memmove(draft->value[WALL][kept++], draft->value[WALL][row], sizeof draft->value[WALL][row]);
+    draft->rows[WALL] = kept;
+}
+
+static void repair_colder(struct draft *draft)
+{
+    for (size_t row = 0; row < draft->rows[WALL]; row++) {
+        long *value = draft->value[WALL][row];
+        if (value[2] < value[3])
+            value[3] = value[2];
+    }
+}
+
+static void repair_total(struct draft *draft)
+{
+    long left = 200000;
+    for (size_t row = 0; row < draft->rows[STAGE]; row++) {
+        long *gas = &draft->value[STAGE][row][0];
+        *gas = *gas > left ? left : *gas;
+        left -= *gas;
+    }
+    if (left > 199900)
+        draft->value[STAGE][0][0] += left - 199900;
+}
+
+void repair_draft(struct draft *draft, struct dice *dice)
+{
+    static const enum kind needed[] = {STAGE, SECTION};
+    for (size_t block = 0; block < 2; block++)
+        if (draft->rows[needed[block]] == 0)
+            fresh_row(draft->value[needed[block]][draft->rows[needed[block]]++], needed[block], dice);
+    /* a rule is left broken about once in so many sheets */
+    enum { SELDOM = 24 };
+    if (thrown(dice, SELDOM))
+        repair_limits(draft);
+    if (thrown(dice, SELDOM)) {
+        repair_material(draft, WARE, 3, 4);
+        repair_material(draft, SETTER, 2, 3);
+        repair_material(draft, PART, 1, 2);
+    }
+    if (thrown(dice, SELDOM))
+        repair_gas(draft->value[GAS][0]);
+    if (thrown(dice, SELDOM))
+        repair_sections(draft);
+    if (thrown(dice, SELDOM))
+        repair_walls(draft, dice);
+    if (thrown(dice, SELDOM))
+        repair_colder(draft);
+    if (thrown(dice, SELDOM))
+        repair_total(draft);
+    if (thrown(dice, SELDOM))
+        for (enum kind kind = SHEET; kind < KINDS; kind++)
+            if (counted(kind))
+                draft->value[kind - 1][0][0] = (long)draft->rows[kind];
+}
