@@ -28,12 +28,15 @@ static uint8_t *sheet_area, *sheet_end;
 
 static uint64_t inputs, met[REFUSALS];
 
-/* The compiler counts the branches that are taken here, the library's before the independent program's. Without its counters, as in
- * compare/replay.c, both ends are null. */
+/* The compiler counts the branches that are taken here, the library's before the independent program's, and says of each where it is
+ * and of what kind. Without its counters, as in compare/replay.c, all are null. */
 extern uint8_t __start___sancov_cntrs[] __attribute__((weak)), __stop___sancov_cntrs[] __attribute__((weak));
+extern const uintptr_t __start___sancov_pcs[][2] __attribute__((weak));
+extern const char __executable_start[] __attribute__((weak));
 #ifndef LIBRARY_EDGES
 #define LIBRARY_EDGES 0
 #endif
+static const size_t library_edges = LIBRARY_EDGES;
 static uint8_t *ever_taken;
 
 static void tell_edges(const char *whose, size_t from, size_t to)
@@ -44,6 +47,14 @@ static void tell_edges(const char *whose, size_t from, size_t to)
     printf("fuzz: %s: %zu of %zu edges\n", whose, taken, to - from);
 }
 
+/* The library's edges that nothing has taken, as places in the program's file. */
+static void tell_missed(void)
+{
+    for (size_t edge = 0; edge < library_edges; edge++)
+        if (!ever_taken[edge])
+            printf("missed %#zx\n", (size_t)(__start___sancov_pcs[edge][0] - (uintptr_t)__executable_start));
+}
+
 static void tell_counts(void)
 {
     size_t edges = (size_t)(__stop___sancov_cntrs - __start___sancov_cntrs);
@@ -52,8 +63,10 @@ static void tell_counts(void)
         printf("fuzz: %s %2d %12llu  %7.3f %%\n", number == 0 ? "accepted" : "refusal ", number, (unsigned long long)met[number],
                inputs ? 100.0 * (double)met[number] / (double)inputs : 0.0);
     if (edges) {
-        tell_edges("library", 0, LIBRARY_EDGES);
-        tell_edges("independent program", LIBRARY_EDGES, edges);
+        tell_edges("library", 0, library_edges);
+        tell_edges("independent program", library_edges, edges);
+        if (getenv("FUZZ_MISSED"))
+            tell_missed();
     }
 }
 

@@ -261,7 +261,7 @@ void repair_draft(struct draft *draft, struct dice *dice)
         if (draft->rows[needed[block]] == 0)
             fresh_row(draft->value[needed[block]][draft->rows[needed[block]]++], needed[block], dice);
     /* a rule is left broken about once in so many sheets */
-    enum { SELDOM = 24 };
+    enum { SELDOM = 12 };
     if (thrown(dice, SELDOM))
         repair_limits(draft);
     if (thrown(dice, SELDOM)) {
