@@ -43,10 +43,11 @@ static const char *const oddities[] = {"-0",  "00",   "01", "+1",   "-",  "",   
 
 static size_t put_oddity(uint8_t *text, size_t length, size_t most, struct dice *dice)
 {
-    size_t from = thrown(dice, length), to = from + thrown(dice, 2);
+    /* nothing may follow the last line, so the end is a place of its own */
+    size_t from = thrown(dice, 8) ? thrown(dice, length) : length, to = from == length ? from : from + thrown(dice, 2);
     uint64_t which = thrown(dice, sizeof oddities / sizeof *oddities + 1);
     /* half the time a whole number is replaced */
-    if (thrown(dice, 2)) {
+    if (from < length && thrown(dice, 2)) {
         while (from > 0 && text[from - 1] >= '-' && text[from - 1] <= '9')
             from--;
         while (to < length && text[to] >= '-' && text[to] <= '9')

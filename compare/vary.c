@@ -260,6 +260,9 @@ void repair_draft(struct draft *draft, struct dice *dice)
     for (size_t block = 0; block < 2; block++)
         if (draft->rows[needed[block]] == 0)
             fresh_row(draft->value[needed[block]][draft->rows[needed[block]]++], needed[block], dice);
+    /* the report rounds by the ware's mass: a joule that is off shows a hundred times sooner where the ware is light */
+    if (thrown(dice, 3) == 0)
+        draft->value[PRODUCT][0][0] = forms[PRODUCT].span[0].least + (long)thrown(dice, 8);
     /* a rule is left broken about once in so many sheets */
     enum { SELDOM = 12 };
     if (thrown(dice, SELDOM))
