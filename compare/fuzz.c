@@ -1,8 +1,8 @@
 /* Puts each input of the fuzzer to the library and to the independent program, and ends at the first difference (compare/fuzz).
  *
- * An input is a sheet. It goes to both in a room that every report fits in, and again in other rooms: for an accepted sheet none, one byte
- * too few, exactly enough and a size that the sheet's bytes decide, for a refused one that size alone. So an input that once made a
- * difference makes it again, with nothing to be remembered besides.
+ * An input is a sheet. It goes to both in a room that every report fits in, and again in another: for an accepted sheet none, one byte too
+ * few, exactly enough or some, for a refused one some. The sheet's bytes decide which, so that an input that once made a difference makes
+ * it again, with nothing to be remembered besides.
  */
 #include <stdbool.h>
 #include <stdio.h>
@@ -118,12 +118,12 @@ static struct hallviska_answer put(const uint8_t *text, size_t length, uint8_t *
     struct hallviska_answer theirs = second_balance(sheet, length, second_lent + start, room);
 
     const char *fault = NULL;
-    if (ours.refusal != theirs.refusal || ours.line != theirs.line || ours.length != theirs.length)
+    if (!sheet_kept)
+        fault = "the sheet was written to";
+    else if (ours.refusal != theirs.refusal || ours.line != theirs.line || ours.length != theirs.length)
         fault = "the answers differ";
     else if (ours.refusal >= REFUSALS || ours.length > room)
         fault = "no such answer can be";
-    else if (!sheet_kept)
-        fault = "the sheet was written to";
     else if (memcmp(library_lent, before, start) != 0)
         fault = "bytes before the room were written to";
     else if (memcmp(library_lent + start + ours.length, before + start + ours.length, lent - start - ours.length) != 0)
