@@ -7,9 +7,9 @@ use lib.ListN.{length, getD, replicate}
 use native.Mathlib.Nat.{zero-lt-suc}
 use lib.Dec.{lt→ltb}
 use lib.IntN.{ℤ, pos}
-use Rattle.quantity.specs.declared.Number.{Number}
-use Rattle.quantity.specs.Checked.{Measured}
-use Rattle.quantity.proofs.Laws.{inside}
+use Rattle.limits.specs.declared.Number.{Number}
+use Rattle.limits.specs.Checked.{Measured}
+use Rattle.limits.proofs.Laws.{inside}
 use Rattle.lines.specs.Schema.{Field}
 use Rattle.entries.specs.Taking.{from, Taken}
 use Rattle.entries.proofs.Ranges.{chained, chained-first}

@@ -10,7 +10,7 @@ use lib.ListN.{length, getD, drop, length-append, length-drop, List·getD-map}
 use lib.Seq.{sets, sets-eq, append-snoc, getD-at, drop-drop}
 use lib.IntN.{ℤ, pos}
 use borrow.Author.Tests.{ltb-true}
-use Rattle.quantity.specs.declared.Number.{Number}
+use Rattle.limits.specs.declared.Number.{Number}
 use Rattle.text.specs.Scanning.{upTo}
 use Rattle.sheet.specs.declared.Refusal.the-variants.{Accepted}
 use Rattle.lines.specs.Schema.{Row, Judged, refused, values, formedBy}

@@ -21,7 +21,7 @@ use Rattle.lines.proofs.Cases.{unless-values}
 use Rattle.line.proofs.Judgement.{numbers-many}
 use Rattle.entries.specs.declared.Place.{Place}
 use Rattle.entries.specs.Place.{good, refusedAt, Fair, Stands, Meets, After, ranged, ruled}
-use Rattle.quantity.specs.declared.Number.{Number}
+use Rattle.limits.specs.declared.Number.{Number}
 use Rattle.entries.specs.Taking.{from, faultOf, Taken}
 use Rattle.entries.specs.Form.{formOf}
 use Rattle.entries.proofs.Places.{not-both, refused-bad, after-weaker}

@@ -8,7 +8,7 @@ use mathlib.Core.Option.{some}
 use native.Mathlib.Omega.{arith}
 use lib.Dec.{eqb·suc-zero}
 use lib.IntN.{ℤ}
-use Rattle.quantity.specs.Checked.{inRange, firstFault}
+use Rattle.limits.specs.Checked.{inRange, firstFault}
 use Rattle.lines.specs.Schema.{Field, within, outsideOf, on}
 use Rattle.entries.specs.Taking.{faultOf}
 

@@ -5,7 +5,7 @@ use mathlib.Core.Bool.{Bool, cond}
 use mathlib.Core.List.{List, [], _∷_, map}
 use lib.ListN.{getD}
 use lib.IntN.{ℤ, pos, natAbs}
-use Rattle.quantity.specs.declared.Number.{Number}
+use Rattle.limits.specs.declared.Number.{Number}
 use Rattle.quantity.specs.declared.gas.Share.{Share}
 use Rattle.sheet.specs.Firing.{Stuff, Wall}
 use Rattle.sheet.specs.Shown.{same, stage}

@@ -5,7 +5,7 @@ pub mod gas;
 pub mod head;
 pub mod take;
 
-use quantity::Number;
+use limits::Number;
 use sheet::Refusal;
 ghost use mathlib.Core.Path.{_≡_};
 ghost use Prim.Native.Nat.{_≤_};

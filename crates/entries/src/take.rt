@@ -1,5 +1,5 @@
 // The quantities of a line, each by its checking constructor, and the first field that is outside its range.
-use quantity::Number;
+use limits::Number;
 use quantity::gas::CarbonMonoxide;
 use quantity::gas::CubicMetres;
 use quantity::gas::ExcessAir;

@@ -1,7 +1,7 @@
 // The fuel, the air that burns it and the flue gas that leaves.
-ghost use Rattle.quantity.specs.Checked.{Measured};
-use crate::Number;
-use crate::measured;
+ghost use Rattle.limits.specs.Checked.{Measured};
+use limits::Number;
+use limits::measured;
 
 // The share of one gas in the fuel, in 0.01 %.
 pub struct Share(pub i64);

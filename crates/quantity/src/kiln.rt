@@ -1,8 +1,8 @@
 // The stages of a firing and the sections of the kiln.
-ghost use Rattle.quantity.specs.Checked.{Measured, Counted};
-use crate::Number;
-use crate::counted;
-use crate::measured;
+ghost use Rattle.limits.specs.Checked.{Measured, Counted};
+use limits::Number;
+use limits::counted;
+use limits::measured;
 
 // A stage by its place among the lines `stage`.
 pub struct StageNumber(pub usize);

@@ -1,7 +1,7 @@
 // Masses.
-ghost use Rattle.quantity.specs.Checked.{Measured};
-use crate::Number;
-use crate::measured;
+ghost use Rattle.limits.specs.Checked.{Measured};
+use limits::Number;
+use limits::measured;
 
 // The fired ware of a firing, in tenths of a kilogram.
 pub struct Product(pub i64);

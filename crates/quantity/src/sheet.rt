@@ -1,8 +1,8 @@
 // What numbers a sheet and says how many lines follow.
-ghost use Rattle.quantity.specs.Checked.{Measured, Counted};
-use crate::Number;
-use crate::counted;
-use crate::measured;
+ghost use Rattle.limits.specs.Checked.{Measured, Counted};
+use limits::Number;
+use limits::counted;
+use limits::measured;
 
 // The edition of the sheet's form, of which there is one.
 pub struct Edition(pub usize);

@@ -3,9 +3,9 @@ ghost use mathlib.Core.Path.{_≡_};
 ghost use lib.IntN.{_-ℤ_};
 ghost use mir.Syntax.{w64};
 ghost use mir.Val.{SFits};
-ghost use Rattle.quantity.specs.Checked.{Measured};
-use crate::Number;
-use crate::measured;
+ghost use Rattle.limits.specs.Checked.{Measured};
+use limits::Number;
+use limits::measured;
 
 // A temperature, in tenths of a degree Celsius.
 pub struct Degrees(pub i64);

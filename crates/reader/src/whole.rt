@@ -20,7 +20,7 @@ use crate::tops::upper_lines;
 use entries::Place;
 use entries::head::closing_line;
 use entries::head::edition_line;
-use quantity::Number;
+use limits::Number;
 use quantity::gas::GasTotal;
 use sheet::Head;
 use sheet::Refusal;

@@ -5,7 +5,7 @@ use borrow.Author.Needs.{needs}
 use lib.IntN.{ℤ, pos}
 use lib.ListN.{getD}
 use Rattle.text.specs.Bytes.{bytes}
-use Rattle.quantity.proofs.Laws.{count-within}
+use Rattle.limits.proofs.Laws.{count-within}
 use Rattle.lines.specs.Reader.{countLine}
 use Rattle.entries.proofs.Chain.{_&_, done, taken}
 use Rattle.entries.proofs.Lines.{line-after}

@@ -10,9 +10,9 @@ use lib.Signed.{leZ-yes}
 use lib.ListN.{length, getD, take, set, replicate, length-set, length-replicate}
 use lib.Seq.{take-suc-set, take-all}
 use Rattle.arith.proofs.Machine.{range, arg, bound}
-use Rattle.quantity.specs.Checked.{Measured}
-use Rattle.quantity.proofs.Laws.{within}
-use Rattle.quantity.specs.declared.Number.{Number}
+use Rattle.limits.specs.Checked.{Measured}
+use Rattle.limits.proofs.Laws.{within}
+use Rattle.limits.specs.declared.Number.{Number}
 use Rattle.quantity.specs.declared.gas.Share.{Share}
 use Rattle.lines.specs.Quantities.{share}
 use Rattle.lines.specs.Rules.{Every}

@@ -11,7 +11,7 @@ use lib.Seq.{take-suc, take-suc-set, take-all}
 use mir.Facts.{toZ-ofZ}
 use mir.Syntax.{w64}
 use mir.Val.{toZ, ofZ}
-use Rattle.quantity.specs.declared.Number.{Number}
+use Rattle.limits.specs.declared.Number.{Number}
 use Rattle.entries.specs.Taking.{plainNumbers}
 use Rattle.entries.proofs.take.numbers.Statement.{statement}
 use Rattle.entries.proofs.take.numbers.Tie as tie

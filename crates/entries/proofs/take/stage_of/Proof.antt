@@ -4,7 +4,7 @@ use mathlib.Core.List.{List, [], _∷_}
 use lib.IntN.{ℤ}
 use lib.Signed.{leZ-yes}
 use Rattle.arith.proofs.Machine.{range, arg, bound}
-use Rattle.quantity.proofs.Laws.{within}
+use Rattle.limits.proofs.Laws.{within}
 use borrow.Author.Needs.{needs}
 use Rattle.lines.specs.Schema.{plain}
 use Rattle.lines.specs.Rows.{stageOf}

@@ -3,7 +3,7 @@ use mathlib.Core.Path.{ap}
 use mathlib.Core.List.{List}
 use lib.IntN.{ℤ}
 use borrow.Author.Needs.{needs}
-use Rattle.quantity.proofs.Laws.{count-within}
+use Rattle.limits.proofs.Laws.{count-within}
 use Rattle.lines.specs.Schema.{plain}
 use Rattle.lines.specs.Rows.{wallOf}
 use Rattle.entries.proofs.Chain.{_&_, done, taken}

@@ -5,7 +5,7 @@ use mathlib.Core.Bool.{Bool, true, false, cond}
 use native.Mathlib.Omega.{arith}
 use borrow.Author.Needs.{needs}
 use lib.IntN.{ℤ, pos}
-use Rattle.quantity.specs.Checked.{Measured, inRange, firstFault}
+use Rattle.limits.specs.Checked.{Measured, inRange, firstFault}
 use Rattle.sheet.specs.declared.Sheet.{Sheet}
 use Rattle.sheet.specs.declared.Refusal.the-variants.{Accepted, Missing, GasTotal}
 use Rattle.lines.specs.Schema.{within}

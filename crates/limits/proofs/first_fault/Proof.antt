@@ -1,8 +1,8 @@
 -- Both arms are the definition's, by the test that leads to them. Assumes nothing.
 use borrow.Author.Tests.{eq-eqb, ne-eqb}
-use Rattle.quantity.specs.Checked.{firstFault}
-use Rattle.quantity.proofs.first_fault.Statement.{statement}
-use Rattle.quantity.proofs.first_fault.Tie as tie
+use Rattle.limits.specs.Checked.{firstFault}
+use Rattle.limits.proofs.first_fault.Statement.{statement}
+use Rattle.limits.proofs.first_fault.Tie as tie
 
 returns : tie.Need-returns
 unfolding firstFault

@@ -7,10 +7,10 @@ use mir.Syntax.{w64}
 use mir.Val.{SFits}
 use mir.Facts.{toZ-ofZ}
 use borrow.Author.Needs.{needs}
-use Rattle.quantity.specs.Checked.{inRange}
-use Rattle.quantity.proofs.Laws.{met, missed}
-use Rattle.quantity.proofs.measured.Statement.{statement}
-use Rattle.quantity.proofs.measured.Tie as tie
+use Rattle.limits.specs.Checked.{inRange}
+use Rattle.limits.proofs.Laws.{met, missed}
+use Rattle.limits.proofs.measured.Statement.{statement}
+use Rattle.limits.proofs.measured.Tie as tie
 
 returns : tie.Need-returns
 unfolding inRange

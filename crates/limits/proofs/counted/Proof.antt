@@ -11,10 +11,10 @@ use mir.Val.{SFits}
 use mir.Facts.{toZ-ofZ, fits-natAbs}
 use borrow.Author.Needs.{needs}
 use borrow.Author.Tests.{le-leb, lt-leb}
-use Rattle.quantity.specs.Checked.{inRange}
-use Rattle.quantity.proofs.Laws.{met, missed}
-use Rattle.quantity.proofs.counted.Statement.{statement}
-use Rattle.quantity.proofs.counted.Tie as tie
+use Rattle.limits.specs.Checked.{inRange}
+use Rattle.limits.proofs.Laws.{met, missed}
+use Rattle.limits.proofs.counted.Statement.{statement}
+use Rattle.limits.proofs.counted.Tie as tie
 
 -- A number from 0 up: it casts, it is its size, and its size decides whether it is in range.
 record Natural (v : ℤ) : Type 0 where

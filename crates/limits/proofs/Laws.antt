@@ -7,7 +7,7 @@ use native.Mathlib.Omega.{arith}
 use lib.Dec.{T, leb, ltb, leb→le, ltb→lt, eqb·suc-zero}
 use lib.IntN.{ℤ, natAbs}
 use lib.Signed.{leZ, leZ-yes, _≤ℤ_, ≤ℤ-refl}
-use Rattle.quantity.specs.Checked.{inRange, firstFault, Measured, Counted}
+use Rattle.limits.specs.Checked.{inRange, firstFault, Measured, Counted}
 
 -- z lies within the limits, both of them included.
 pub record Between (least greatest z : ℤ) : Type 0 where
