@@ -1,6 +1,6 @@
 /* Times the library and the independent program on the same sheets, one after the other in turn.
  *
- *   bench FILE...                  a row for each sheet: its bytes, the answer, nanoseconds of each of the two, and their ratio
+ *   bench FILE...                  a row for each sheet: its name, its bytes, the answer, nanoseconds of each of the two, and their ratio
  *   bench CALLS WHICH FILE         that many calls of one of the two (0 the library, 1 the independent program) and nothing else,
  *                                  for counting what they take by other means
  */
@@ -18,8 +18,9 @@ balance second_balance;
 
 static balance *const both[2] = {hallviska_balance, second_balance};
 
-/* A round takes about this long for each of the two, and the fastest of so many rounds counts: what disturbs a round only slows it. */
-enum { ROUND_NS = 20 * 1000 * 1000, ROUNDS = 9 };
+/* A round takes about this long for each of the two, and the fastest of so many rounds counts: what disturbs a round only slows it, and
+ * among many short rounds some are not disturbed. */
+enum { ROUND_NS = 500 * 1000, ROUNDS = 300 };
 
 static uint8_t sheet[1 << 16];
 static size_t sheet_length;
@@ -84,9 +85,8 @@ static void measure(const char *path)
                 best[which] = each;
         }
     const char *name = strrchr(path, '/') ? strrchr(path, '/') + 1 : path;
-    printf("%-34s %6zu %4u,%-4u %10.0f %10.0f %8.2f\n", name, sheet_length, (unsigned)answer.refusal, (unsigned)answer.line, best[0],
-           best[1], best[0] / best[1]);
-    fflush(stdout);
+    printf("%s %zu %u,%u %.0f %.0f %.2f\n", name, sheet_length, (unsigned)answer.refusal, (unsigned)answer.line, best[0], best[1],
+           best[0] / best[1]);
 }
 
 int main(int words, char **word)
@@ -96,7 +96,6 @@ int main(int words, char **word)
         call(both[word[2][0] == '1'], atol(word[1]));
         return 0;
     }
-    printf("%-34s %6s %9s %10s %10s %8s\n", "sheet", "bytes", "answer", "library ns", "second ns", "ratio");
     for (int at = 1; at < words; at++)
         measure(word[at]);
     return 0;
