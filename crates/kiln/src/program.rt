@@ -1,7 +1,7 @@
 // What the program prints.
 ghost use mathlib.Core.Path.{_≡_};
-ghost use Prim.Native.Nat.{_≤_};
-ghost use lib.ListN.{length};
+ghost use Prim.Native.Nat.{_≤_, _<_};
+ghost use lib.ListN.{length, take};
 ghost use Rattle.text.specs.Writing.{Written};
 ghost use Rattle.kiln.specs.Answer.{refusedText, printedOf};
 use crate::answered;
@@ -19,12 +19,15 @@ fn refusal_text(out: &mut [u8], refusal: u32, line: u32) -> usize
     text::bytes_at(out, d, b"\n")
 }
 
-// Puts the whole printed text at the front: the report, or the refusal.
-pub fn print(sheet: &[u8], out: &mut [u8; 1024]) -> usize
-    ensures { λ r. ⌜ Written 0 (printedOf (now (sheet .entry))) (now (out .entry)) (now (out .exit)) r ⌝ }
+// Puts the whole printed text at the front: the report, or the refusal. The first n bytes of the room that was read
+// into are the sheet. The room has more bytes than a sheet may have, so that a longer one is seen to be longer and not cut short.
+pub fn print(room: &[u8], n: usize, out: &mut [u8; 1024]) -> usize
+    requires { ⌜ 16384 < length (now room) ⌝ }
+    requires { ⌜ n ≤ length (now room) ⌝ }
+    ensures { λ r. ⌜ Written 0 (printedOf (take n (now (room .entry)))) (now (out .entry)) (now (out .exit)) r ⌝ }
     ensures { λ r. ⌜ r ≤ length (now (out .exit)) ⌝ }
 {
-    let a = answered(sheet, out);
+    let a = answered(&room[..n], out);
     if a.refusal == 0 {
         return a.length;
     }

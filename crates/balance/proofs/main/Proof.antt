@@ -7,7 +7,7 @@ use lib.Seq.{length-take-le}
 use Rattle.balance.proofs.main.Statement.{statement}
 use Rattle.balance.proofs.main.Tie as tie
 
-within : (c : tie.After-print) → c .print .result ≤ length (c .print .last .1 .0)
+within : (c : tie.After-print) → c .print .result ≤ length (c .print .last .1 .1 .0)
 within c = c .print .ensures .1
 
 pub main-spec : {M : Type 1} → statement M
@@ -16,7 +16,6 @@ main-spec =
     (tie.spec
     (λ c. search needs)
     (λ c κs. search needs)
-    (λ c. search needs)
     (λ c. search needs)
     (λ c κs. search needs)
     within

@@ -1,10 +1,11 @@
 -- The answer for this room is the report or a refusal of the sheet, whose text then goes over the room as it was. Assumes nothing.
 use borrow.Author.Needs.{needs}
-use mathlib.Core.Path.{ap, subst}
+use mathlib.Core.Path.{sym, ap, subst}
 use mathlib.Core.List.{List}
 use native.Mathlib.Omega.{arith}
 use Prim.Native.Nat.{ℕ, _≤_}
-use lib.ListN.{length}
+use lib.ListN.{length, take}
+use lib.Seq.{length-take-le}
 use Rattle.text.specs.Writing.{Written}
 use Rattle.kiln.specs.Answer.{refusedText}
 use Rattle.kiln.proofs.Telling.{report-told, refusal-told}
@@ -17,9 +18,9 @@ answered-requires c κs = search needs
 returns : tie.Need-returns
 returns c =
     let r = c .before .before .answered in
-    let s = c .before .before .before .before .before in
+    let s = c .before .before .before .before .before .before in
     let size : 600 ≤ length (s .args .out .now) = omega arith in
-    let told = report-told (s .args .sheet .now) (s .args .out .now) (r .last .1 .0) (r .result) (r .ensures .1 .1) size (r .ensures .0) (r .ensures .1 .0) (omega arith) in
+    let told = report-told (take (s .args .n) (s .args .room .now)) (s .args .out .now) (r .last .1 .0) (r .result) (r .ensures .1 .1) size (r .ensures .0) (r .ensures .1 .0) (omega arith) in
     (told .0, omega (arith, told .1, size, r .kept .1 .0))
 
 refusal-text-requires : tie.Need-refusal-text-requires
@@ -28,10 +29,10 @@ refusal-text-requires c κs = search needs
 returns-2 : tie.Need-returns-2
 returns-2 c =
     let r = c .before .before .before .before .answered in
-    let s = c .before .before .before .before .before .before .before in
+    let s = c .before .before .before .before .before .before .before .before in
     let size : 600 ≤ length (s .args .out .now) = omega arith in
-    let told = refusal-told (s .args .sheet .now) (s .args .out .now) (r .last .1 .0) (r .result) (r .ensures .1 .1) size (r .ensures .0) (r .ensures .1 .0) (omega arith) in
+    let told = refusal-told (take (s .args .n) (s .args .room .now)) (s .args .out .now) (r .last .1 .0) (r .result) (r .ensures .1 .1) size (r .ensures .0) (r .ensures .1 .0) (omega arith) in
     (subst (λ (t : List ℕ). Written 0 t (s .args .out .now) (c .refusal-text .last .0) (c .refusal-text .result)) (told .0) (subst (λ (old : List ℕ). Written 0 (refusedText (r .result .refusal) (r .result .line)) old (c .refusal-text .last .0) (c .refusal-text .result)) (told .1) (c .refusal-text .ensures .0)), omega (arith, c .refusal-text .ensures .1, size, c .refusal-text .kept .0, ap length (told .1)))
 
 pub print-spec : {M : Type 1} → statement M
-print-spec = tie.close (tie.spec answered-requires returns refusal-text-requires returns-2)
+print-spec = tie.close (tie.spec (λ c. sym (length-take-le _ _ (c .before .before .pre .1))) answered-requires returns refusal-text-requires returns-2)
