@@ -129,9 +129,10 @@ pub fn warmth_of(gas: [Share; 13]) -> Warmth
     requires { ⌜ GasIn (gasOf gas) ⌝ }
     ensures { λ r. ⌜ Warmed (gasOf gas) r ⌝ }
 {
+    let kinds = TABLE_A1;
     let mut sum = Warmth { cold: 0, rise: 0 };
     for i in 0..13 {
-        let kind = TABLE_A1[i];
+        let kind = kinds[i];
         sum = warmer(sum, kind, gas[i]);
     }
     sum
@@ -154,13 +155,14 @@ pub fn burning_of(gas: [Share; 13]) -> Burning
     requires { ⌜ GasIn (gasOf gas) ⌝ }
     ensures { λ r. ⌜ Burnt (gasOf gas) r ⌝ }
 {
+    let kinds = TABLE_A1;
     let mut sum = Burning {
         air: 0,
         dry: 0,
         vapour: 0,
     };
     for i in 0..13 {
-        let kind = TABLE_A1[i];
+        let kind = kinds[i];
         sum = brighter(sum, kind, gas[i]);
     }
     sum

@@ -18,10 +18,10 @@ abbrev so-far : List ℤ → List Share → ℕ → ℤ
 so-far column shares i = weigh (take i column) (gasRow (gas shares) .numbers)
 
 abbrev Inv-loop : tie.InvT-loop
-Inv-loop shares sum₀ i₀ sum i = (i ≤ 13) × ((sum .air ≡ so-far airs shares i) × ((sum .dry ≡ so-far dries shares i) × (sum .vapour ≡ so-far vapours shares i)))
+Inv-loop shares kinds sum₀ i₀ sum i = (i ≤ 13) × ((sum .air ≡ so-far airs shares i) × ((sum .dry ≡ so-far dries shares i) × (sum .vapour ≡ so-far vapours shares i)))
 
 abbrev μ-loop : tie.MeasureT-loop
-μ-loop shares sum₀ i₀ sum i = 13 - i
+μ-loop shares kinds sum₀ i₀ sum i = 13 - i
 
 loop-holds : tie.Need-loop-holds Inv-loop μ-loop
 loop-holds c = (omega arith, (refl, (refl, refl)))

@@ -21,10 +21,10 @@ abbrev so-far : List ℤ → List Share → ℕ → ℤ
 so-far column shares i = weigh (take i column) (gasRow (gas shares) .numbers)
 
 abbrev Inv-loop : tie.InvT-loop
-Inv-loop shares sum₀ i₀ sum i = (i ≤ 13) × ((sum .cold ≡ so-far colds shares i) × (sum .rise ≡ so-far rises shares i))
+Inv-loop shares kinds sum₀ i₀ sum i = (i ≤ 13) × ((sum .cold ≡ so-far colds shares i) × (sum .rise ≡ so-far rises shares i))
 
 abbrev μ-loop : tie.MeasureT-loop
-μ-loop shares sum₀ i₀ sum i = 13 - i
+μ-loop shares kinds sum₀ i₀ sum i = 13 - i
 
 loop-holds : tie.Need-loop-holds Inv-loop μ-loop
 loop-holds c = (omega arith, (refl, refl))
