@@ -101,7 +101,7 @@ pub fn reading() -> Reading
     ensures { λ r. ⌜ r ≡ unread ⌝ }
 {
     Reading {
-        read: false,
+        read: 0,
         surface: SurfaceTemperature(0),
         air: NearAir(0),
     }

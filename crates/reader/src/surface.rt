@@ -106,7 +106,7 @@ fn reading_of(w: Wall) -> Reading
     let surface = w.surface;
     let air = w.air;
     Reading {
-        read: true,
+        read: 1,
         surface,
         air,
     }

@@ -4,6 +4,7 @@ use mathlib.Core.Path.{_≡_}
 use mathlib.Core.Bool.{Bool, true, false, cond, _&&_}
 use mathlib.Core.List.{List, [], _∷_, map}
 use lib.ListN.{getD, take, set, replicate}
+use lib.Dec.{eqb}
 use lib.IntN.{ℤ, pos, natAbs}
 use lib.Signed.{leZ}
 use Rattle.quantity.specs.declared.gas.Share.{Share}
@@ -98,10 +99,13 @@ abbrev pub cell : List Section → Wall → ℕ
 cell l w = before (w .section) l * 12 + (natAbs (w .stage) - 1)
 
 abbrev pub reading : Wall → Readingˢ
-reading w = record { read = true; surface = record { 0 = w .surface }; air = record { 0 = w .air } }
+reading w = record { read = 1; surface = record { 0 = w .surface }; air = record { 0 = w .air } }
 
 abbrev pub unread : Readingˢ
-unread = record { read = false; surface = record { 0 = pos 0 }; air = record { 0 = pos 0 } }
+unread = record { read = 0; surface = record { 0 = pos 0 }; air = record { 0 = pos 0 } }
+
+abbrev pub wasRead : Readingˢ → Bool
+wasRead x = eqb (x .read) 1
 
 -- the walls laid into their cells, one after the other
 unfoldable pub laid : List Section → List Readingˢ → List Wall → List Readingˢ

@@ -99,9 +99,10 @@ pub struct Section {
     pub area: Area,
 }
 
-// What was measured at a section in a stage, if it was.
+// What was measured at a section in a stage, if it was: `read` is 1 then, and else 0. A bool would leave a gap behind it, which 144 copies
+// would move along.
 pub struct Reading {
-    pub read: bool,
+    pub read: usize,
     pub surface: SurfaceTemperature,
     pub air: NearAir,
 }

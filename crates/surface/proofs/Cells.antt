@@ -22,7 +22,7 @@ use Rattle.sheet.specs.declared.Stage.{Stage as Stageˢ}
 use Rattle.sheet.specs.declared.Sections.{Sections}
 use Rattle.sheet.specs.declared.Stages.{Stages}
 use Rattle.sheet.specs.Firing.{Section, Wall, Firing}
-use Rattle.sheet.specs.Shown.{stage, section, same, before, cell, reading, unread, laid}
+use Rattle.sheet.specs.Shown.{stage, section, same, before, cell, reading, unread, wasRead, laid}
 use Rattle.lines.specs.Rules.{Every, Some}
 use Rattle.lines.specs.Limits.{StageIn, SectionIn, WallIn, Apart}
 use Rattle.formulas.specs.Rounding.{paper}
@@ -201,7 +201,7 @@ module _ (f : Firing) (few : length (f .sections) ≤ 12) where
       ∙ ap (λ (z : ℤ). z +ℤ walls) (one ∙ ap (λ (z : ℤ). total f cells +ℤ z) mine)
       ∙ ring (total f cells ∷ wallHeat paper (sectionOf f w) (stageOf f w) w ∷ walls ∷ []) (v 0 ⊕ v 1 ⊕ v 2) (v 0 ⊕ (v 1 ⊕ v 2)) tt
 
-  pub laid-lies : (ws : List Wall) (cells : List Reading) → length cells ≡ 144 → Every (WallIn f) ws → ((k : ℕ) → getD cells k unread .read ≡ true → Lies f k (getD cells k unread)) → (k : ℕ) → getD (laid (f .sections) cells ws) k unread .read ≡ true → Lies f k (getD (laid (f .sections) cells ws) k unread)
+  pub laid-lies : (ws : List Wall) (cells : List Reading) → length cells ≡ 144 → Every (WallIn f) ws → ((k : ℕ) → wasRead (getD cells k unread) ≡ true → Lies f k (getD cells k unread)) → (k : ℕ) → wasRead (getD (laid (f .sections) cells ws) k unread) ≡ true → Lies f k (getD (laid (f .sections) cells ws) k unread)
   unfolding laid
   laid-lies [] cells long p h = h
   laid-lies (w ∷ ws) cells long p h =
@@ -210,10 +210,10 @@ module _ (f : Firing) (few : length (f .sections) ≤ 12) where
       more : List Reading
       more = set cells (at w) (reading w)
 
-      other : (k : ℕ) → k ≢ at w → getD more k unread .read ≡ true → Lies f k (getD more k unread)
+      other : (k : ℕ) → k ≢ at w → wasRead (getD more k unread) ≡ true → Lies f k (getD more k unread)
       other k d e = let q = getD-set-other cells (at w) k (reading w) unread d in rw q (h k (rw q at e))
 
-      go : (k : ℕ) → Dec (k ≤ at w) → Dec (at w ≤ k) → getD more k unread .read ≡ true → Lies f k (getD more k unread)
+      go : (k : ℕ) → Dec (k ≤ at w) → Dec (at w ≤ k) → wasRead (getD more k unread) ≡ true → Lies f k (getD more k unread)
       go k (no d) t e = other k (λ q. omega arith) e
       go k (yes d) (no t) e = other k (λ q. omega arith) e
       go k (yes d) (yes t) e =
@@ -251,10 +251,10 @@ module _ {readings : List Reading} {x : Sections} {y : Stages} {f : Firing} (see
   few : length (f .sections) ≤ 12
   few = seen .limits .sectionsMost
 
-  pub cell-lies : (k : ℕ) → getD readings k unread .read ≡ true → Lies f k (getD readings k unread)
+  pub cell-lies : (k : ℕ) → wasRead (getD readings k unread) ≡ true → Lies f k (getD readings k unread)
   cell-lies k =
-      subst (λ (l : List Reading). getD l k unread .read ≡ true → Lies f k (getD l k unread)) (sym (seen .laid))
-      (laid-lies f few (f .walls) (replicate 144 unread) refl (seen .limits .walls) (λ j e. absurd (true-not-false (sym e ∙ ap (λ (r : Reading). r .read) (blank unread 144 j)))) k)
+      subst (λ (l : List Reading). wasRead (getD l k unread) ≡ true → Lies f k (getD l k unread)) (sym (seen .laid))
+      (laid-lies f few (f .walls) (replicate 144 unread) refl (seen .limits .walls) (λ j e. absurd (true-not-false (sym e ∙ ap wasRead (blank unread 144 j)))) k)
 
   section-at : (k : ℕ) → k / 12 < length (f .sections) → getD (f .sections) (k / 12) noSection ≡ section (getD (x .lines) (k / 12) blankSection)
   section-at k h = rw (seen .sections) (shown-at section (x .lines) (x .count .0) (k / 12) blankSection noSection (rw (seen .sections) at h))
@@ -273,9 +273,9 @@ module _ {readings : List Reading} {x : Sections} {y : Stages} {f : Firing} (see
   }
 
   coded-is : (k : ℕ) → coded readings (x .lines) (y .lines) k ≡ heatAt f readings k
-  coded-is k = go (getD readings k unread .read) refl
+  coded-is k = go (wasRead (getD readings k unread)) refl
     where
-      go : (t : Bool) → getD readings k unread .read ≡ t → coded readings (x .lines) (y .lines) k ≡ heatAt f readings k
+      go : (t : Bool) → wasRead (getD readings k unread) ≡ t → coded readings (x .lines) (y .lines) k ≡ heatAt f readings k
       go true e = let l = cell-lies k e in rw (section-at k (l .section), stage-at k (l .stage))
       go false e = rw e
 
@@ -297,9 +297,9 @@ module _ {readings : List Reading} {x : Sections} {y : Stages} {f : Firing} (see
 
   -- nothing was read beyond the sections that there are
   beyond : (k : ℕ) → 12 * x .count .0 ≤ k → coded readings (x .lines) (y .lines) k ≡ pos 0
-  beyond k h = go (getD readings k unread .read) refl
+  beyond k h = go (wasRead (getD readings k unread)) refl
     where
-      go : (t : Bool) → getD readings k unread .read ≡ t → coded readings (x .lines) (y .lines) k ≡ pos 0
+      go : (t : Bool) → wasRead (getD readings k unread) ≡ t → coded readings (x .lines) (y .lines) k ≡ pos 0
       go true e =
           let l : k / 12 < length (map section (take (x .count .0) (x .lines))) = rw (seen .sections) at (cell-lies k e .section) in
           absurd (let f : ⊥ = omega (arith, l, few-of section (x .count .0) (x .lines)) in f)

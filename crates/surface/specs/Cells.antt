@@ -12,7 +12,7 @@ use Rattle.sheet.specs.declared.Reading.{Reading}
 use Rattle.sheet.specs.declared.Sections.{Sections}
 use Rattle.sheet.specs.declared.Stages.{Stages}
 use Rattle.sheet.specs.Firing.{Stage, Section, Wall, Firing}
-use Rattle.sheet.specs.Shown.{section, laid, unread}
+use Rattle.sheet.specs.Shown.{section, laid, unread, wasRead}
 use Rattle.lines.specs.Quantities.{surface, nearAir, minutes}
 use Rattle.lines.specs.Limits.{In, StageIn, SectionIn, Limits}
 use Rattle.formulas.specs.Rounding.{paper}
@@ -65,10 +65,10 @@ wallOf x = record { section = pos 0; stage = pos 0; surface = x .surface .0; air
 
 -- the heat of a cell: none where nothing was read
 abbrev pub cellHeat : Reading → Section → Stage → ℤ
-cellHeat x s t = cond (x .read) (wallHeat paper s t (wallOf x)) (pos 0)
+cellHeat x s t = cond (wasRead x) (wallHeat paper s t (wallOf x)) (pos 0)
 
 pub record CellIn (x : Reading) (s : Section) (t : Stage) : Type 0 where
-  pub lost : x .read ≡ true → LostIn x s t
+  pub lost : wasRead x ≡ true → LostIn x s t
 
 -- the firing that sections, stages and readings show
 pub record Seen (readings : List Reading) (x : Sections) (y : Stages) (f : Firing) : Type 0 where

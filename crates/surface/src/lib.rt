@@ -129,7 +129,7 @@ fn cell_heat(reading: Reading, section: Section, stage: Stage) -> Joules
     requires { ⌜ CellIn reading (sectionOf section) (stageOf stage) ⌝ }
     ensures { λ r. ⌜ Figure joule 807647678093 (r .0) (cellHeat reading (sectionOf section) (stageOf stage)) ⌝ }
 {
-    if reading.read {
+    if reading.read == 1 {
         return wall_heat(reading, section, stage);
     }
     Joules(0)

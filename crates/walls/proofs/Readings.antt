@@ -12,7 +12,7 @@ use lib.Seq.{getD-set-same, getD-set-other}
 use borrow.Author.Tests.{eqb-true, eqb-false, ltb-true, ltb-false}
 use Rattle.sheet.specs.declared.Reading.{Reading}
 use Rattle.sheet.specs.Firing.{Section, Wall}
-use Rattle.sheet.specs.Shown.{same, before, cell, reading, unread, laid}
+use Rattle.sheet.specs.Shown.{same, before, cell, reading, unread, wasRead, laid}
 use Rattle.lines.specs.Schema.{Row}
 use Rattle.lines.specs.Quantities.{stageNumber}
 use Rattle.lines.specs.Limits.{In}
@@ -25,15 +25,15 @@ use Rattle.walls.proofs.Same.{any-map}
 use Rattle.walls.proofs.Sections.{before-one}
 
 -- A cell is looked up among the 144, and beyond the last there is none.
-read-there : (cells : List Reading) → length cells ≡ 144 → (k : ℕ) → (ltb k 144 && getD cells (min k 143) unread .read) ≡ readAt cells k
+read-there : (cells : List Reading) → length cells ≡ 144 → (k : ℕ) → (ltb k 144 && wasRead (getD cells (min k 143) unread)) ≡ readAt cells k
 read-there cells n k = here (ltb k 144) refl
   where
-    here : (t : Bool) → ltb k 144 ≡ t → (t && getD cells (min k 143) unread .read) ≡ readAt cells k
-    here true e = let d : min k 143 ≡ k = omega (arith, ltb-true k 144 e) in ap (λ (i : ℕ). getD cells i unread .read) d
-    here false e = sym (ap (λ (x : Reading). x .read) (List·getD-eq-default cells unread (omega (arith, n, ltb-false k 144 e))))
+    here : (t : Bool) → ltb k 144 ≡ t → (t && wasRead (getD cells (min k 143) unread)) ≡ readAt cells k
+    here true e = let d : min k 143 ≡ k = omega (arith, ltb-true k 144 e) in ap (λ (i : ℕ). wasRead (getD cells i unread)) d
+    here false e = sym (ap wasRead (List·getD-eq-default cells unread (omega (arith, n, ltb-false k 144 e))))
 
-pub read-is : (cells : List Reading) (k i : ℕ) (read : Bool) → length cells ≡ 144 → i ≡ min k 143 → read ≡ (ltb k 144 && getD cells i unread .read) → read ≡ readAt cells k
-read-is cells k i read n e r = r ∙ ap (λ (j : ℕ). ltb k 144 && getD cells j unread .read) e ∙ read-there cells n k
+pub read-is : (cells : List Reading) (k i : ℕ) (read : Bool) → length cells ≡ 144 → i ≡ min k 143 → read ≡ (ltb k 144 && wasRead (getD cells i unread)) → read ≡ readAt cells k
+read-is cells k i read n e r = r ∙ ap (λ (j : ℕ). ltb k 144 && wasRead (getD cells j unread)) e ∙ read-there cells n k
 
 -- A wall whose section is listed and whose stage is one of twelve.
 pub record Placed (S : List Section) (w : Wall) : Type 0 where
@@ -101,11 +101,11 @@ module _ (S : List Section) (few : length S ≤ 12) where
       by true e =
           let one = sym (eqb-true (cell S x) (cell S w) e) in
           let room : cell S x < length cells = omega (arith, cell-below x p) in
-          ap (λ (r : Reading). r .read)
+          ap wasRead
           (ap (λ (i : ℕ). getD (set cells (cell S x) (reading x)) i unread) one ∙ getD-set-same cells (cell S x) (reading x) unread room)
       by false e =
           let other = eqb-false (cell S x) (cell S w) e in
-          ap (λ (r : Reading). r .read) (getD-set-other cells (cell S x) (cell S w) (reading x) unread (λ q. other (sym q)))
+          ap wasRead (getD-set-other cells (cell S x) (cell S w) (reading x) unread (λ q. other (sym q)))
 
   -- Over any cells that are there already.
   laid-onto :
@@ -124,7 +124,7 @@ module _ (S : List Section) (few : length S ≤ 12) where
       (w : Wall) → Placed S w → (ws : List Wall) → Every (Placed S) ws →
       readAt (laid S (replicate 144 unread) ws) (cell S w) ≡ any (measures (w .section) (w .stage)) ws
   laid-read w q ws ps =
-      let blank = ap (λ (r : Reading). r .read) (getD-replicate 144 (cell S w) unread unread (cell-below w q)) in
+      let blank = ap wasRead (getD-replicate 144 (cell S w) unread unread (cell-below w q)) in
       laid-onto w q ws (replicate 144 unread) (length-replicate 144 unread) ps
       ∙ (ap (λ t. any (measures (w .section) (w .stage)) ws || t) blank ∙ or-false _)
 

@@ -6,7 +6,7 @@ use lib.ListN.{getD}
 use Rattle.sheet.specs.declared.Reading.{Reading}
 use Rattle.sheet.specs.declared.Refusal.{Refusal}
 use Rattle.sheet.specs.declared.Refusal.the-variants.{Accepted, NoSuchWall, ReadTwice, Colder}
-use Rattle.sheet.specs.Shown.{unread}
+use Rattle.sheet.specs.Shown.{unread, wasRead}
 use Rattle.walls.specs.declared.Ruling.{Ruling}
 
 -- 6: no such section or stage; 7: read already; 9: colder than the air near it
@@ -23,7 +23,7 @@ rulingOf listed staged read colder =
 
 -- a cell beyond the last is not read
 abbrev pub readAt : List Reading → ℕ → Bool
-readAt cells i = getD cells i unread .read
+readAt cells i = wasRead (getD cells i unread)
 
 -- a test passes at every number below n
 unfoldable pub every : (ℕ → Bool) → ℕ → Bool

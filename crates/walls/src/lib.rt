@@ -7,7 +7,7 @@ ghost use lib.Dec.{ltb};
 ghost use lib.ListN.{take};
 ghost use lib.IntN.{pos};
 ghost use lib.Signed.{ltZ};
-ghost use Rattle.sheet.specs.Shown.{section, before};
+ghost use Rattle.sheet.specs.Shown.{section, before, wasRead};
 ghost use Rattle.walls.specs.Walls.{rulingOf, rowRead, allRead};
 use quantity::kiln::SectionNumber;
 use quantity::temperature::NearAir;
@@ -88,9 +88,9 @@ pub fn looked_up(cell: usize) -> usize
 
 // Whether a cell is read, by what lies where it is looked up; one beyond the last is not.
 pub fn is_read(there: Reading, cell: usize) -> bool
-    ensures { λ r. ⌜ r ≡ (ltb cell 144 && there .read) ⌝ }
+    ensures { λ r. ⌜ r ≡ (ltb cell 144 && wasRead there) ⌝ }
 {
-    cell < 144 && there.read
+    cell < 144 && there.read == 1
 }
 
 // Whether a section was read in each of the first stages.
@@ -102,7 +102,7 @@ fn row_read(readings: [Reading; 144], row: usize, stages: usize) -> bool
     while stage < stages {
         let cell = row * 12 + stage;
         let there = readings[cell];
-        if there.read {
+        if there.read == 1 {
             stage += 1;
         } else {
             return false;

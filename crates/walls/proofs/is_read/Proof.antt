@@ -6,7 +6,7 @@ use Rattle.walls.proofs.is_read.Statement.{statement}
 use Rattle.walls.proofs.is_read.Tie as tie
 
 returns : tie.Need-returns
-returns c = rw (lt-ltb (c .before .args .cell) 144 (omega arith)) refl
+returns c = rw (lt-ltb (c .before .before .args .cell) 144 (omega arith)) refl
 
 returns-2 : tie.Need-returns-2
 returns-2 c = rw (le-ltb (c .before .args .cell) 144 (omega arith)) refl

@@ -2,6 +2,7 @@
 use borrow.Author.Needs.{needs}
 use Prim.Native.Nat.{_-_, _≤_}
 use native.Mathlib.Omega.{arith}
+use borrow.Author.Tests.{eq-eqb, ne-eqb}
 use mathlib.Core.Path.{_≡_, refl, sym}
 use mathlib.Core.Bool.{true}
 use Rattle.walls.specs.Walls.{every, rowRead}
@@ -38,10 +39,10 @@ loop-less : tie.Need-loop-less Inv-loop μ-loop
 loop-less c = search needs
 
 loop-again : tie.Need-loop-again Inv-loop μ-loop
-loop-again c = (omega arith, every-more _ _ (c .if1 .taken) (c .before .before .before .loop .inv .1))
+loop-again c = (omega arith, every-more _ _ (eq-eqb _ 1 (c .if1 .taken)) (c .before .before .before .before .loop .inv .1))
 
 returns : tie.Need-returns Inv-loop μ-loop
-returns c = sym (every-not _ _ _ (c .before .before .loop-test .taken) (c .if1 .left))
+returns c = sym (every-not _ _ _ (c .before .before .before .loop-test .taken) (ne-eqb _ 1 (c .if1 .left)))
 
 returns-2 : tie.Need-returns-2 Inv-loop μ-loop
 returns-2 c =
