@@ -45,18 +45,6 @@ fn line_length(i: usize, figure: i64) -> usize
     key + text::width(figure) + 2
 }
 
-// One line at a place, and where it ends.
-fn line_at(out: &mut [u8], at: usize, i: usize, figure: i64) -> usize
-    requires { ⌜ i < 20 ⌝ }
-    requires { ⌜ at + length (line (getD keys i []) figure) ≤ length (now out) ⌝ }
-    ensures { λ r. ⌜ Written at (line (getD keys i []) figure) (now (out .entry)) (now (out .exit)) r ⌝ }
-{
-    let keys = KEYS;
-    let start = STARTS[i];
-    let end = STARTS[i + 1];
-    text::line_at(out, at, &keys[start..end], figure)
-}
-
 // How long the report is; no report is longer than 600 bytes.
 fn length(figures: [i64; 20]) -> usize
     ensures { λ r. ⌜ r ≡ length (linesText keys figures) ⌝ }
@@ -87,10 +75,14 @@ pub fn write(out: &mut [u8], figures: [i64; 20]) -> usize
     requires { ⌜ length (linesText keys figures) ≤ length (now out) ⌝ }
     ensures { λ r. ⌜ Written 0 (linesText keys figures) (now (out .entry)) (now (out .exit)) r ⌝ }
 {
+    let keys = KEYS;
+    let starts = STARTS;
     let mut at = 0;
     let mut i = 0;
     while i < 20 {
-        at = line_at(out, at, i, figures[i]);
+        let start = starts[i];
+        let end = starts[i + 1];
+        at = text::line_at(out, at, &keys[start..end], figures[i]);
         i += 1;
     }
     at
