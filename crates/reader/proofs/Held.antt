@@ -19,24 +19,24 @@ use Rattle.walls.proofs.Readings.{Placed}
 use Rattle.entries.specs.declared.Place.{Place}
 use Rattle.entries.specs.declared.head.EditionLine.{EditionLine}
 use Rattle.entries.specs.declared.head.ClosingLine.{ClosingLine}
-use Rattle.reader.specs.declared.tops.Upper.{Upper}
-use Rattle.reader.specs.declared.tops.Lower.{Lower}
-use Rattle.reader.specs.declared.parts.StagesPart.{StagesPart}
-use Rattle.reader.specs.declared.parts.SettersPart.{SettersPart}
-use Rattle.reader.specs.declared.parts.PartsPart.{PartsPart}
-use Rattle.reader.specs.declared.parts.SectionsPart.{SectionsPart}
-use Rattle.reader.specs.declared.surface.WallRows.{WallRows}
+use Rattle.groups.specs.declared.tops.Upper.{Upper}
+use Rattle.groups.specs.declared.tops.Lower.{Lower}
+use Rattle.groups.specs.declared.parts.StagesPart.{StagesPart}
+use Rattle.groups.specs.declared.parts.SettersPart.{SettersPart}
+use Rattle.groups.specs.declared.parts.PartsPart.{PartsPart}
+use Rattle.groups.specs.declared.parts.SectionsPart.{SectionsPart}
+use Rattle.groups.specs.declared.surface.WallRows.{WallRows}
 use Rattle.entries.specs.Place.{good, Fair, After}
-use Rattle.reader.specs.Filling.{Filled}
-use Rattle.reader.specs.Blank.{blankStage, blankSetter, blankPart, blankSection}
+use Rattle.groups.specs.Filling.{Filled}
+use Rattle.groups.specs.Blank.{blankStage, blankSetter, blankPart, blankSection}
 use Rattle.entries.specs.Taking.{shares}
-use Rattle.reader.specs.Tops.{upperParts, lowerParts, UpperShown, LowerShown}
-use Rattle.reader.specs.Surface.{SectionsShown, WallsShown}
-use Rattle.reader.specs.Blocks.{stagesOf01, settersOf01, partsOf01, sectionsOf01, wallsOf01, StagesRead, SettersRead, PartsRead, SectionsRead, WallsRead}
+use Rattle.groups.specs.Tops.{upperParts, lowerParts, UpperShown, LowerShown}
+use Rattle.groups.specs.Surface.{SectionsShown, WallsShown}
+use Rattle.groups.specs.Blocks.{stagesOf01, settersOf01, partsOf01, sectionsOf01, wallsOf01, StagesRead, SettersRead, PartsRead, SectionsRead, WallsRead}
 use Rattle.reader.specs.Whole.{headOf, top, Held}
 use Rattle.entries.proofs.Places.{after-bind}
-use Rattle.reader.proofs.Fills.{filled-most}
-use Rattle.reader.proofs.Sequence.{pass-on, then-line, then-part, then-parts, parts-done, one-after}
+use Rattle.groups.proofs.Fills.{filled-most}
+use Rattle.groups.proofs.Sequence.{pass-on, then-line, then-part, then-parts, parts-done, one-after}
 
 -- ---- walls: a sheet that has the sections and the number of stages asked for can always be had
 abbrev some-sheet : List Section → ℕ → Sheet

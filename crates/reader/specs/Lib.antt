@@ -1,7 +1,1 @@
-pub mod Filling
-pub mod Blank
-pub mod Tops
-pub mod Surface
-pub mod Stages
-pub mod Blocks
 pub mod Whole

@@ -20,13 +20,13 @@ use Rattle.walls.specs.Walls.{allRead}
 use Rattle.walls.proofs.Sections.{Distinct}
 use Rattle.walls.proofs.Readings.{Placed}
 use Rattle.entries.specs.declared.Place.{Place}
-use Rattle.reader.specs.declared.tops.Upper.{Upper}
-use Rattle.reader.specs.declared.tops.Lower.{Lower}
+use Rattle.groups.specs.declared.tops.Upper.{Upper}
+use Rattle.groups.specs.declared.tops.Lower.{Lower}
 use Rattle.reader.specs.declared.whole.Lines.{Lines}
 use Rattle.reader.specs.declared.whole.Outcome.{Outcome}
 use Rattle.entries.specs.Place.{After}
-use Rattle.reader.specs.Stages.{SmallGas}
-use Rattle.reader.specs.Blank.{blankStage, blankSetter, blankPart, blankSection, blankSheet}
+use Rattle.groups.specs.Stages.{SmallGas}
+use Rattle.groups.specs.Blank.{blankStage, blankSetter, blankPart, blankSection, blankSheet}
 
 abbrev pub headOf : Upper → Lower → Head
 headOf u l = record { firing = u .firing; product = u .product; ambient = u .ambient; fuel = u .fuel; gas = u .gas; moisture = l .moisture; ware = l .ware; water = l .water; clay = l .clay }

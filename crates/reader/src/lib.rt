@@ -1,9 +1,4 @@
 // From any byte string: the sheet that it is the text of, or the refusal and its line.
-mod blank;
-mod parts;
-mod rows;
-mod surface;
-mod tops;
 mod whole;
 
 use crate::whole::all_lines;

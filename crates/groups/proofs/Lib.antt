@@ -1,0 +1,4 @@
+pub mod Sequence
+pub mod Fills
+pub mod Above
+pub mod Walls
