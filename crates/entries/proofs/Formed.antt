@@ -19,7 +19,7 @@ use Rattle.line.specs.declared.Line.{Line}
 use Rattle.line.specs.Line.{zeros, handed, lineAt}
 use Rattle.entries.specs.declared.Place.{Place}
 use Rattle.entries.specs.Place.{good, refusedAt, Fair, Ready, Meets, After}
-use Rattle.entries.specs.Taking.{plainNumbers, from}
+use Rattle.amounts.specs.Taking.{plainNumbers, from}
 use Rattle.entries.specs.Form.{readForm}
 use Rattle.entries.proofs.Places.{not-both, refused-bad}
 use Rattle.entries.proofs.Lines.{in-form}

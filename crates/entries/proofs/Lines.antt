@@ -22,10 +22,10 @@ use Rattle.line.proofs.Judgement.{numbers-many}
 use Rattle.entries.specs.declared.Place.{Place}
 use Rattle.entries.specs.Place.{good, refusedAt, Fair, Stands, Meets, After, ranged, ruled}
 use Rattle.limits.specs.declared.Number.{Number}
-use Rattle.entries.specs.Taking.{from, faultOf, Taken}
+use Rattle.amounts.specs.Taking.{from, faultOf, Taken}
 use Rattle.entries.specs.Form.{formOf}
 use Rattle.entries.proofs.Places.{not-both, refused-bad, after-weaker}
-use Rattle.entries.proofs.Ranges.{fault-is, outside-some}
+use Rattle.amounts.proofs.Ranges.{fault-is, outside-some}
 
 -- ---- a line in form
 -- what a line in form is: its numbers as many as its fields, and at least its LF long

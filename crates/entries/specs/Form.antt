@@ -15,7 +15,7 @@ use Rattle.entries.specs.declared.Place.{Place}
 use Rattle.entries.specs.declared.LineDue.{LineDue}
 use Rattle.entries.specs.declared.blocks.StageLine.{StageLine}
 use Rattle.entries.specs.Place.{After}
-use Rattle.entries.specs.Taking.{from}
+use Rattle.amounts.specs.Taking.{from}
 
 -- the key is given with its `=`
 abbrev pub readForm : List ℕ → ℕ → Reader Row

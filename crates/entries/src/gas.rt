@@ -10,12 +10,12 @@ ghost use Rattle.lines.specs.Document01.{sumOf, weigh, airWeights, gasLine, gas
 ghost use Rattle.lines.specs.Reader.{readLine};
 ghost use Rattle.lines.specs.Rules.{Every};
 ghost use Rattle.entries.specs.Place.{Ready, After};
-ghost use Rattle.entries.specs.Taking.{shares};
+ghost use Rattle.amounts.specs.Taking.{shares};
 use crate::Place;
 use crate::due;
 use crate::ranged;
 use crate::ruled;
-use crate::take::gas_of;
+use amounts::gas_of;
 use quantity::gas::Share;
 use sheet::Refusal;
 

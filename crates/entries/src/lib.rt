@@ -3,7 +3,6 @@ pub mod blocks;
 pub mod coded;
 pub mod gas;
 pub mod head;
-pub mod take;
 
 use limits::Number;
 use sheet::Refusal;
@@ -49,7 +48,7 @@ pub fn due(s: &[u8], p: Place, key: &[u8], n: usize) -> LineDue
         let at = p.at;
         let l = line::read_line(s, at, key, n);
         let v = l.values;
-        let values = take::numbers(v);
+        let values = amounts::numbers(v);
         let next = l.next;
         let line = p.line;
         if next == 0 {

@@ -30,10 +30,10 @@ use Rattle.walls.proofs.Readings.{Placed, laid-more, placed-more}
 use Rattle.walls.proofs.Rulings.{said}
 use Rattle.entries.specs.declared.Place.{Place}
 use Rattle.groups.specs.declared.surface.WallLine.{WallLine}
-use Rattle.entries.specs.declared.take.Wall.{Wall as Wallˢ}
+use Rattle.amounts.specs.declared.Wall.{Wall as Wallˢ}
 use Rattle.entries.specs.Place.{good, refusedAt, Fair, After}
 use Rattle.groups.specs.Surface.{lacks, WallAfter, WallsShown, settled}
-use Rattle.entries.specs.Taking.{wall}
+use Rattle.amounts.specs.Taking.{wall}
 use Rattle.groups.proofs.Above.{rows-here, rows-other}
 use Rattle.entries.proofs.Lines.{Kept, ruled-after, not-good, good-test}
 use Rattle.entries.proofs.Places.{not-both, refused-bad, after-weaker, after-refused}

@@ -24,7 +24,7 @@ use Rattle.walls.proofs.Readings.{Placed}
 use Rattle.entries.specs.declared.Place.{Place}
 use Rattle.groups.specs.declared.surface.WallLine.{WallLine}
 use Rattle.entries.specs.Place.{After, ruled}
-use Rattle.entries.specs.Taking.{wall}
+use Rattle.amounts.specs.Taking.{wall}
 use Rattle.groups.specs.Filling.{Filled}
 use Rattle.groups.specs.Blank.{blankSection}
 

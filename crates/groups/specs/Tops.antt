@@ -8,7 +8,7 @@ use Rattle.lines.specs.Document01.{at, free, gas-rule, material-rule, firingLin
 use Rattle.lines.specs.Rows.{fuelOf, wareOf, waterOf}
 use Rattle.groups.specs.declared.tops.Upper.{Upper}
 use Rattle.groups.specs.declared.tops.Lower.{Lower}
-use Rattle.entries.specs.Taking.{shares}
+use Rattle.amounts.specs.Taking.{shares}
 
 -- the lines from firing to gas
 abbrev pub upperParts : List Part

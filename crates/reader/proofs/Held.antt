@@ -29,7 +29,7 @@ use Rattle.groups.specs.declared.surface.WallRows.{WallRows}
 use Rattle.entries.specs.Place.{good, Fair, After}
 use Rattle.groups.specs.Filling.{Filled}
 use Rattle.groups.specs.Blank.{blankStage, blankSetter, blankPart, blankSection}
-use Rattle.entries.specs.Taking.{shares}
+use Rattle.amounts.specs.Taking.{shares}
 use Rattle.groups.specs.Tops.{upperParts, lowerParts, UpperShown, LowerShown}
 use Rattle.groups.specs.Surface.{SectionsShown, WallsShown}
 use Rattle.groups.specs.Blocks.{stagesOf01, settersOf01, partsOf01, sectionsOf01, wallsOf01, StagesRead, SettersRead, PartsRead, SectionsRead, WallsRead}

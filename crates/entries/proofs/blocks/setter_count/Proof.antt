@@ -7,7 +7,7 @@ use lib.ListN.{getD}
 use Rattle.text.specs.Bytes.{bytes}
 use Rattle.limits.proofs.Laws.{count-within}
 use Rattle.lines.specs.Reader.{countLine}
-use Rattle.entries.proofs.Chain.{_&_, done, taken}
+use Rattle.amounts.proofs.Chain.{_&_, done, taken}
 use Rattle.entries.proofs.Lines.{line-after}
 use Rattle.entries.proofs.blocks.setter_count.Statement.{statement}
 use Rattle.entries.proofs.blocks.setter_count.Tie as tie

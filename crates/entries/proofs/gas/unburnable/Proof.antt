@@ -12,7 +12,7 @@ use Rattle.arith.proofs.Int.{one-*ℤ}
 use Rattle.quantity.specs.declared.gas.Share.{Share}
 use Rattle.sheet.specs.Shown.{same}
 use Rattle.lines.specs.Document01.{sumOf, weigh, airWeights}
-use Rattle.entries.specs.Taking.{shares}
+use Rattle.amounts.specs.Taking.{shares}
 use Rattle.entries.proofs.gas.unburnable.Statement.{statement}
 use Rattle.entries.proofs.gas.unburnable.Tie as tie
 

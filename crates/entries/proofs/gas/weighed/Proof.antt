@@ -15,7 +15,7 @@ use Rattle.arith.proofs.Machine.{Known, small, arg, _⟨+⟩_, _⟨*⟩_, fits,
 use Rattle.quantity.specs.declared.gas.Share.{Share}
 use Rattle.lines.specs.Document01.{weigh}
 use Rattle.lines.specs.Rules.{Every}
-use Rattle.entries.specs.Taking.{shares}
+use Rattle.amounts.specs.Taking.{shares}
 use Rattle.lines.proofs.Lists.{every-at}
 use Rattle.entries.proofs.gas.weighed.Statement.{statement}
 use Rattle.entries.proofs.gas.weighed.Tie as tie

@@ -5,7 +5,7 @@ use borrow.Author.Needs.{needs}
 use lib.IntN.{ℤ, pos}
 use lib.ListN.{getD}
 use Rattle.lines.specs.Document01.{airLine}
-use Rattle.entries.proofs.Chain.{_&_, done, taken}
+use Rattle.amounts.proofs.Chain.{_&_, done, taken}
 use Rattle.entries.proofs.Lines.{line-after}
 use Rattle.entries.proofs.head.moisture_line.Statement.{statement}
 use Rattle.entries.proofs.head.moisture_line.Tie as tie

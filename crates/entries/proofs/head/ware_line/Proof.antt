@@ -9,7 +9,7 @@ use Rattle.sheet.specs.Shown.{ware}
 use Rattle.lines.specs.Schema.{plain}
 use Rattle.lines.specs.Document01.{wareLine, when, material-rule}
 use Rattle.lines.specs.Rows.{wareOf}
-use Rattle.entries.specs.Taking.{unsuited}
+use Rattle.amounts.specs.Taking.{unsuited}
 use Rattle.entries.proofs.Places.{after-left}
 use Rattle.entries.proofs.Lines.{line-after, ruled-after}
 use Rattle.entries.proofs.head.ware_line.Statement.{statement}

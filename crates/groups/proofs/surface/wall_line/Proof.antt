@@ -4,7 +4,7 @@ use borrow.Author.Needs.{needs}
 use Rattle.lines.specs.Schema.{plain}
 use Rattle.lines.specs.Document01.{wallLine}
 use Rattle.lines.specs.Rows.{wallOf}
-use Rattle.entries.specs.Taking.{wall}
+use Rattle.amounts.specs.Taking.{wall}
 use Rattle.entries.proofs.Lines.{line-after}
 use Rattle.groups.proofs.surface.wall_line.Statement.{statement}
 use Rattle.groups.proofs.surface.wall_line.Tie as tie

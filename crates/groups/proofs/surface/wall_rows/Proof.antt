@@ -22,7 +22,7 @@ use Rattle.entries.specs.declared.Place.{Place}
 use Rattle.groups.specs.declared.surface.WallLine.{WallLine}
 use Rattle.entries.specs.Place.{good, Ready}
 use Rattle.groups.specs.Surface.{WallsShown, WallsAfter, settled}
-use Rattle.entries.specs.Taking.{wall}
+use Rattle.amounts.specs.Taking.{wall}
 use Rattle.entries.proofs.Places.{not-both, is-good, is-bad}
 use Rattle.groups.proofs.Sequence.{block-start}
 use Rattle.groups.proofs.Walls.{rule-on, good-unbroken, unbroken-place, settled-fair, next}

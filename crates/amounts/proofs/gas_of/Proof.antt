@@ -16,11 +16,11 @@ use Rattle.limits.specs.declared.Number.{Number}
 use Rattle.quantity.specs.declared.gas.Share.{Share}
 use Rattle.lines.specs.Quantities.{share}
 use Rattle.lines.specs.Rules.{Every}
-use Rattle.entries.specs.Taking.{from, shares}
-use Rattle.entries.proofs.Chain.{Chain, done, taken, chain-snoc, from-end, replicate-end}
+use Rattle.amounts.specs.Taking.{from, shares}
+use Rattle.amounts.proofs.Chain.{Chain, done, taken, chain-snoc, from-end, replicate-end}
 use Rattle.lines.proofs.Lists.{every-replicate, every-set}
-use Rattle.entries.proofs.take.gas_of.Statement.{statement}
-use Rattle.entries.proofs.take.gas_of.Tie as tie
+use Rattle.amounts.proofs.gas_of.Statement.{statement}
+use Rattle.amounts.proofs.gas_of.Tie as tie
 
 abbrev Small : Share → Type 0
 Small x = natAbs (x .0) ≤ 10000

@@ -11,8 +11,8 @@ use Rattle.limits.specs.declared.Number.{Number}
 use Rattle.limits.specs.Checked.{Measured}
 use Rattle.limits.proofs.Laws.{inside}
 use Rattle.lines.specs.Schema.{Field}
-use Rattle.entries.specs.Taking.{from, Taken}
-use Rattle.entries.proofs.Ranges.{chained, chained-first}
+use Rattle.amounts.specs.Taking.{from, Taken}
+use Rattle.amounts.proofs.Ranges.{chained, chained-first}
 
 -- numbers zs checked against fields fs, counted from i, with a fault before and a fault after them; what is handed out
 infixr 5 _&_

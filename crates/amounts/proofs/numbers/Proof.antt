@@ -12,11 +12,11 @@ use mir.Facts.{toZ-ofZ}
 use mir.Syntax.{w64}
 use mir.Val.{toZ, ofZ}
 use Rattle.limits.specs.declared.Number.{Number}
-use Rattle.entries.specs.Taking.{plainNumbers}
-use Rattle.entries.proofs.take.numbers.Statement.{statement}
-use Rattle.entries.proofs.take.numbers.Tie as tie
-use Rattle.entries.proofs.take.numbers.Reads as reads
-use Rattle.entries.proofs.take.numbers.Lts as lts
+use Rattle.amounts.specs.Taking.{plainNumbers}
+use Rattle.amounts.proofs.numbers.Statement.{statement}
+use Rattle.amounts.proofs.numbers.Tie as tie
+use Rattle.amounts.proofs.numbers.Reads as reads
+use Rattle.amounts.proofs.numbers.Lts as lts
 
 one-more : (r : List Number) (v : List ℤ) (i : ℕ) (x : ℤ) → i < length r → i < length v → x ≡ getD v i (pos 0) → plainNumbers (take i r) ≡ take i v
     → plainNumbers (take (i + 1) (set r i (record { 0 = x }))) ≡ take (i + 1) v

@@ -7,8 +7,8 @@ use mir.Syntax.{w64}
 use mir.Val.{SFits}
 use mir.Facts.{toZ-ofZ}
 use borrow.Author.Needs.{needs}
-use Rattle.entries.proofs.take.without.Statement.{statement}
-use Rattle.entries.proofs.take.without.Tie as tie
+use Rattle.amounts.proofs.without.Statement.{statement}
+use Rattle.amounts.proofs.without.Tie as tie
 
 returns : tie.Need-returns
 returns c =

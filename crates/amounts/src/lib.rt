@@ -31,7 +31,7 @@ ghost use Rattle.sheet.specs.Shown.{same, stuff, fuel, ware, water, setter, par
 ghost use Rattle.lines.specs.Schema.{plain};
 ghost use Rattle.lines.specs.Document01.{fuelLine, wareLine, waterLine, setterLine, partLine, sectionLine};
 ghost use Rattle.lines.specs.Rows.{fuelOf, wareOf, waterOf, setterOf, partOf, sectionOf};
-ghost use Rattle.entries.specs.Taking.{plainNumbers, from, Taken, GasAfter, StageTakenAs, WallTakenAs, unsuited as unsuitedStuff};
+ghost use Rattle.amounts.specs.Taking.{plainNumbers, from, Taken, GasAfter, StageTakenAs, WallTakenAs, unsuited as unsuitedStuff};
 
 // The numbers of a line as numbers of the sheet.
 pub fn numbers(v: [i64; 13]) -> [Number; 13]

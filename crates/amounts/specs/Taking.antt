@@ -13,10 +13,10 @@ use Rattle.lines.specs.Schema.{Field, within, plain}
 use Rattle.lines.specs.Document01.{alike, gasLine, stageLine, wallLine}
 use Rattle.lines.specs.Rows.{stageOf, wallOf}
 use Rattle.lines.specs.Rules.{Every}
-use Rattle.entries.specs.declared.take.GasTaken.{GasTaken}
-use Rattle.entries.specs.declared.take.Wall.{Wall as Wallˢ}
-use Rattle.entries.specs.declared.take.WallTaken.{WallTaken}
-use Rattle.entries.specs.declared.take.StageTaken.{StageTaken}
+use Rattle.amounts.specs.declared.GasTaken.{GasTaken}
+use Rattle.amounts.specs.declared.Wall.{Wall as Wallˢ}
+use Rattle.amounts.specs.declared.WallTaken.{WallTaken}
+use Rattle.amounts.specs.declared.StageTaken.{StageTaken}
 
 abbrev pub plainNumbers : List Number → List ℤ
 plainNumbers v = map (λ x. x .0) v

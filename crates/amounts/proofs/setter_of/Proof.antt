@@ -5,9 +5,9 @@ use lib.IntN.{ℤ}
 use borrow.Author.Needs.{needs}
 use Rattle.lines.specs.Schema.{plain}
 use Rattle.lines.specs.Rows.{setterOf}
-use Rattle.entries.proofs.Chain.{_&_, done, taken}
-use Rattle.entries.proofs.take.setter_of.Statement.{statement}
-use Rattle.entries.proofs.take.setter_of.Tie as tie
+use Rattle.amounts.proofs.Chain.{_&_, done, taken}
+use Rattle.amounts.proofs.setter_of.Statement.{statement}
+use Rattle.amounts.proofs.setter_of.Tie as tie
 
 returns : tie.Need-returns
 returns c =

@@ -5,9 +5,9 @@ use lib.IntN.{ℤ}
 use borrow.Author.Needs.{needs}
 use Rattle.lines.specs.Schema.{plain}
 use Rattle.lines.specs.Rows.{wareOf}
-use Rattle.entries.proofs.Chain.{_&_, done, taken}
-use Rattle.entries.proofs.take.ware_of.Statement.{statement}
-use Rattle.entries.proofs.take.ware_of.Tie as tie
+use Rattle.amounts.proofs.Chain.{_&_, done, taken}
+use Rattle.amounts.proofs.ware_of.Statement.{statement}
+use Rattle.amounts.proofs.ware_of.Tie as tie
 
 returns : tie.Need-returns
 returns c =

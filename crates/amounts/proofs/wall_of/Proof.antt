@@ -6,9 +6,9 @@ use borrow.Author.Needs.{needs}
 use Rattle.limits.proofs.Laws.{count-within}
 use Rattle.lines.specs.Schema.{plain}
 use Rattle.lines.specs.Rows.{wallOf}
-use Rattle.entries.proofs.Chain.{_&_, done, taken}
-use Rattle.entries.proofs.take.wall_of.Statement.{statement}
-use Rattle.entries.proofs.take.wall_of.Tie as tie
+use Rattle.amounts.proofs.Chain.{_&_, done, taken}
+use Rattle.amounts.proofs.wall_of.Statement.{statement}
+use Rattle.amounts.proofs.wall_of.Tie as tie
 
 returns : tie.Need-returns
 returns c =

@@ -8,8 +8,8 @@ use borrow.Author.Tests.{le-leb, lt-leb}
 use lib.IntN.{pos}
 use Rattle.sheet.specs.Shown.{same}
 use Rattle.lines.specs.Document01.{alike}
-use Rattle.entries.proofs.take.unsuited.Statement.{statement}
-use Rattle.entries.proofs.take.unsuited.Tie as tie
+use Rattle.amounts.proofs.unsuited.Statement.{statement}
+use Rattle.amounts.proofs.unsuited.Tie as tie
 
 listed : (m : ℕ) (b : Bool) → (m ≡ 0 → ⊥) → alike (same (pos 0) (pos m)) b ≡ not b
 listed m b h = rw (le-leb 0 m (omega arith), lt-leb m 0 (omega arith))

@@ -8,9 +8,9 @@ use Rattle.limits.proofs.Laws.{within}
 use borrow.Author.Needs.{needs}
 use Rattle.lines.specs.Schema.{plain}
 use Rattle.lines.specs.Rows.{stageOf}
-use Rattle.entries.proofs.Chain.{_&_, done, taken}
-use Rattle.entries.proofs.take.stage_of.Statement.{statement}
-use Rattle.entries.proofs.take.stage_of.Tie as tie
+use Rattle.amounts.proofs.Chain.{_&_, done, taken}
+use Rattle.amounts.proofs.stage_of.Statement.{statement}
+use Rattle.amounts.proofs.stage_of.Tie as tie
 
 returns : tie.Need-returns
 returns c =

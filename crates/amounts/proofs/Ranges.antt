@@ -10,7 +10,7 @@ use lib.Dec.{eqb·suc-zero}
 use lib.IntN.{ℤ}
 use Rattle.limits.specs.Checked.{inRange, firstFault}
 use Rattle.lines.specs.Schema.{Field, within, outsideOf, on}
-use Rattle.entries.specs.Taking.{faultOf}
+use Rattle.amounts.specs.Taking.{faultOf}
 
 -- the fault after some fields, with the fault before them
 unfoldable pub chained : ℕ → ℕ → List Field → List ℤ → ℕ
