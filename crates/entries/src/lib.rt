@@ -1,8 +1,7 @@
-// One entry of the sheet after the other: from the place where a line is due, its quantities and the place after it, or the refusal.
-pub mod blocks;
+// What is due at a place of the sheet: the form of a line, its ranges and its rule, and the place after it, or the refusal. The line `gas`
+// stands here as well, since its rule has edits that must fail, and those check this small crate alone.
 pub mod coded;
 pub mod gas;
-pub mod head;
 
 use limits::Number;
 use sheet::Refusal;

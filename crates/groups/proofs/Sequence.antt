@@ -11,7 +11,7 @@ use Rattle.lines.specs.Reader.{Sheet, Rule, Part, one, many, countLine, Read, s
 use Rattle.entries.specs.declared.Place.{Place}
 use Rattle.entries.specs.Place.{good, Fair, After}
 use Rattle.groups.specs.Filling.{With}
-use Rattle.entries.specs.Form.{CountAfter}
+use Rattle.records.specs.Read.{CountAfter}
 use Rattle.entries.proofs.Places.{after-bind, after-return, after-weaker}
 
 module _ (s : List ℕ) (l : Line) (rule : Rule) (seen : Sheet) where

@@ -17,8 +17,8 @@ use Rattle.lines.specs.Rows.{gasOf, stageOf, setterOf, partOf, sectionRow, sect
 use Rattle.lines.specs.Rules.{Every}
 use Rattle.walls.proofs.Readings.{Placed}
 use Rattle.entries.specs.declared.Place.{Place}
-use Rattle.entries.specs.declared.head.EditionLine.{EditionLine}
-use Rattle.entries.specs.declared.head.ClosingLine.{ClosingLine}
+use Rattle.records.specs.declared.head.EditionLine.{EditionLine}
+use Rattle.records.specs.declared.head.ClosingLine.{ClosingLine}
 use Rattle.groups.specs.declared.tops.Upper.{Upper}
 use Rattle.groups.specs.declared.tops.Lower.{Lower}
 use Rattle.groups.specs.declared.parts.StagesPart.{StagesPart}

@@ -1,0 +1,21 @@
+-- The form, the quantities and their first fault are the line that is due. Assumes nothing.
+use mathlib.Core.Path.{_≡_}
+use borrow.Author.Needs.{needs}
+use Rattle.sheet.specs.Shown.{fuel}
+use Rattle.lines.specs.Schema.{plain}
+use Rattle.lines.specs.Document01.{fuelLine}
+use Rattle.lines.specs.Rows.{fuelOf}
+use Rattle.entries.proofs.Lines.{line-after}
+use Rattle.records.proofs.head.fuel_line.Statement.{statement}
+use Rattle.records.proofs.head.fuel_line.Tie as tie
+
+returns : tie.Need-returns
+returns c =
+    let r = c .before .ranged in
+    let t = c .before .before .before .fuel-of in
+    let d = c .before .before .before .before .before .due in
+    let a = c .before .before .before .before .before .before .before .before .args in
+    rw (r .ensures) (line-after (a .s .now) (a .p) (d .result .place) fuelLine (d .result .values) (t .result .fault) (λ zs. fuel (t .result .fuel) ≡ fuelOf (plain zs)) (d .ensures) (t .ensures))
+
+pub fuel-line-spec : {M : Type 1} → statement M
+fuel-line-spec = tie.close (tie.spec (λ c. search needs) (λ c κs. search needs) (λ c κs. search needs) (λ c κs. search needs) returns)
