@@ -16,12 +16,12 @@ use Rattle.groups.specs.declared.parts.StagesPart.{StagesPart}
 use Rattle.groups.specs.declared.parts.SettersPart.{SettersPart}
 use Rattle.groups.specs.declared.parts.PartsPart.{PartsPart}
 use Rattle.groups.specs.declared.parts.SectionsPart.{SectionsPart}
-use Rattle.groups.specs.declared.surface.WallRows.{WallRows}
+use Rattle.tiers.specs.declared.surface.WallRows.{WallRows}
 use Rattle.entries.specs.Place.{After}
-use Rattle.groups.specs.Filling.{Filled, With}
-use Rattle.groups.specs.Blank.{blankStage, blankSetter, blankPart}
-use Rattle.groups.specs.Stages.{SmallGas}
-use Rattle.groups.specs.Surface.{lacks, SectionsShown, WallsShown}
+use Rattle.tiers.specs.Filling.{Filled, With}
+use Rattle.blank.specs.Blank.{blankStage, blankSetter, blankPart}
+use Rattle.tiers.specs.Stages.{SmallGas}
+use Rattle.tiers.specs.Surface.{lacks, SectionsShown, WallsShown}
 
 abbrev pub stagesOf01 : Part
 stagesOf01 = many (bytes "stages") 1 12 stageLine free

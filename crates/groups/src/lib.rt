@@ -1,6 +1,3 @@
-// The lines of a sheet in groups: those above the stages, and each block with the array that its lines fill.
-pub mod blank;
+// The lines of a sheet in groups: those above the stages, and each block by its count and its rows.
 pub mod parts;
-mod rows;
-mod surface;
 pub mod tops;

@@ -5,12 +5,6 @@ ghost use lib.ListN.{take};
 ghost use Rattle.sheet.specs.Shown.{section};
 ghost use Rattle.entries.specs.Place.{Ready};
 ghost use Rattle.groups.specs.Blocks.{StagesRead, SettersRead, PartsRead, SectionsRead, WallsRead};
-use crate::rows::part_rows;
-use crate::rows::setter_rows;
-use crate::rows::stage_rows;
-use crate::surface::WallRows;
-use crate::surface::section_rows;
-use crate::surface::wall_rows;
 use entries::Place;
 use records::blocks::part_count;
 use records::blocks::section_count;
@@ -21,6 +15,12 @@ use sheet::Parts;
 use sheet::Sections;
 use sheet::Setters;
 use sheet::Stages;
+use tiers::rows::part_rows;
+use tiers::rows::setter_rows;
+use tiers::rows::stage_rows;
+use tiers::surface::WallRows;
+use tiers::surface::section_rows;
+use tiers::surface::wall_rows;
 
 pub struct StagesPart {
     pub place: Place,

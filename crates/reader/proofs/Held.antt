@@ -25,18 +25,18 @@ use Rattle.groups.specs.declared.parts.StagesPart.{StagesPart}
 use Rattle.groups.specs.declared.parts.SettersPart.{SettersPart}
 use Rattle.groups.specs.declared.parts.PartsPart.{PartsPart}
 use Rattle.groups.specs.declared.parts.SectionsPart.{SectionsPart}
-use Rattle.groups.specs.declared.surface.WallRows.{WallRows}
+use Rattle.tiers.specs.declared.surface.WallRows.{WallRows}
 use Rattle.entries.specs.Place.{good, Fair, After}
-use Rattle.groups.specs.Filling.{Filled}
-use Rattle.groups.specs.Blank.{blankStage, blankSetter, blankPart, blankSection}
+use Rattle.tiers.specs.Filling.{Filled}
+use Rattle.blank.specs.Blank.{blankStage, blankSetter, blankPart, blankSection}
 use Rattle.amounts.specs.Taking.{shares}
 use Rattle.groups.specs.Tops.{upperParts, lowerParts, UpperShown, LowerShown}
-use Rattle.groups.specs.Surface.{SectionsShown, WallsShown}
+use Rattle.tiers.specs.Surface.{SectionsShown, WallsShown}
 use Rattle.groups.specs.Blocks.{stagesOf01, settersOf01, partsOf01, sectionsOf01, wallsOf01, StagesRead, SettersRead, PartsRead, SectionsRead, WallsRead}
 use Rattle.reader.specs.Whole.{headOf, top, Held}
 use Rattle.entries.proofs.Places.{after-bind}
-use Rattle.groups.proofs.Fills.{filled-most}
-use Rattle.groups.proofs.Sequence.{pass-on, then-line, then-part, then-parts, parts-done, one-after}
+use Rattle.tiers.proofs.Fills.{filled-most}
+use Rattle.tiers.proofs.Sequence.{pass-on, then-line, then-part, then-parts, parts-done, one-after}
 
 -- ---- walls: a sheet that has the sections and the number of stages asked for can always be had
 abbrev some-sheet : List Section → ℕ → Sheet

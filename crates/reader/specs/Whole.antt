@@ -25,8 +25,8 @@ use Rattle.groups.specs.declared.tops.Lower.{Lower}
 use Rattle.reader.specs.declared.whole.Lines.{Lines}
 use Rattle.reader.specs.declared.whole.Outcome.{Outcome}
 use Rattle.entries.specs.Place.{After}
-use Rattle.groups.specs.Stages.{SmallGas}
-use Rattle.groups.specs.Blank.{blankStage, blankSetter, blankPart, blankSection, blankSheet}
+use Rattle.tiers.specs.Stages.{SmallGas}
+use Rattle.blank.specs.Blank.{blankStage, blankSetter, blankPart, blankSection, blankSheet}
 
 abbrev pub headOf : Upper → Lower → Head
 headOf u l = record { firing = u .firing; product = u .product; ambient = u .ambient; fuel = u .fuel; gas = u .gas; moisture = l .moisture; ware = l .ware; water = l .water; clay = l .clay }

@@ -4,9 +4,9 @@ use Rattle.text.specs.Bytes.{bytes}
 use Rattle.sheet.specs.Shown.{part}
 use Rattle.lines.specs.Document01.{material-rule, partLine}
 use Rattle.lines.specs.Rows.{partOf}
-use Rattle.groups.specs.Filling.{Filled}
-use Rattle.groups.specs.Blank.{blankPart}
-use Rattle.groups.proofs.Sequence.{count-after, many-after}
+use Rattle.tiers.specs.Filling.{Filled}
+use Rattle.blank.specs.Blank.{blankPart}
+use Rattle.tiers.proofs.Sequence.{count-after, many-after}
 use Rattle.groups.proofs.parts.parts_part.Statement.{statement}
 use Rattle.groups.proofs.parts.parts_part.Tie as tie
 

@@ -2,8 +2,8 @@
 use borrow.Author.Needs.{needs}
 use Rattle.text.specs.Bytes.{bytes}
 use Rattle.lines.specs.Document01.{section-rule, sectionLine}
-use Rattle.groups.specs.Surface.{SectionsShown}
-use Rattle.groups.proofs.Sequence.{count-after, many-after}
+use Rattle.tiers.specs.Surface.{SectionsShown}
+use Rattle.tiers.proofs.Sequence.{count-after, many-after}
 use Rattle.groups.proofs.parts.sections_part.Statement.{statement}
 use Rattle.groups.proofs.parts.sections_part.Tie as tie
 

@@ -4,9 +4,9 @@ use Rattle.text.specs.Bytes.{bytes}
 use Rattle.sheet.specs.Shown.{setter}
 use Rattle.lines.specs.Document01.{material-rule, setterLine}
 use Rattle.lines.specs.Rows.{setterOf}
-use Rattle.groups.specs.Filling.{Filled}
-use Rattle.groups.specs.Blank.{blankSetter}
-use Rattle.groups.proofs.Sequence.{count-after, many-after}
+use Rattle.tiers.specs.Filling.{Filled}
+use Rattle.blank.specs.Blank.{blankSetter}
+use Rattle.tiers.proofs.Sequence.{count-after, many-after}
 use Rattle.groups.proofs.parts.setters_part.Statement.{statement}
 use Rattle.groups.proofs.parts.setters_part.Tie as tie
 

@@ -4,9 +4,9 @@ use Rattle.text.specs.Bytes.{bytes}
 use Rattle.sheet.specs.Shown.{stage}
 use Rattle.lines.specs.Document01.{free, stageLine}
 use Rattle.lines.specs.Rows.{stageOf}
-use Rattle.groups.specs.Filling.{Filled}
-use Rattle.groups.specs.Blank.{blankStage}
-use Rattle.groups.proofs.Sequence.{count-after, many-after}
+use Rattle.tiers.specs.Filling.{Filled}
+use Rattle.blank.specs.Blank.{blankStage}
+use Rattle.tiers.proofs.Sequence.{count-after, many-after}
 use Rattle.groups.proofs.parts.stages_part.Statement.{statement}
 use Rattle.groups.proofs.parts.stages_part.Tie as tie
 

@@ -5,8 +5,8 @@ use lib.ListN.{take}
 use Rattle.text.specs.Bytes.{bytes}
 use Rattle.sheet.specs.Shown.{section}
 use Rattle.lines.specs.Document01.{wall-rule, wallLine}
-use Rattle.groups.specs.Surface.{WallsShown}
-use Rattle.groups.proofs.Sequence.{count-after, many-after}
+use Rattle.tiers.specs.Surface.{WallsShown}
+use Rattle.tiers.proofs.Sequence.{count-after, many-after}
 use Rattle.groups.proofs.parts.walls_part.Statement.{statement}
 use Rattle.groups.proofs.parts.walls_part.Tie as tie
 

@@ -5,7 +5,7 @@ use borrow.Author.Needs.{needs}
 use Rattle.lines.specs.Reader.{Sheet, one, filled}
 use Rattle.lines.specs.Document01.{free, material-rule, airLine, wareLine, waterLine, clayLine}
 use Rattle.groups.specs.Tops.{LowerShown}
-use Rattle.groups.proofs.Sequence.{pass-on, then-line, parts-done}
+use Rattle.tiers.proofs.Sequence.{pass-on, then-line, parts-done}
 use Rattle.groups.proofs.tops.lower_lines.Statement.{statement}
 use Rattle.groups.proofs.tops.lower_lines.Tie as tie
 

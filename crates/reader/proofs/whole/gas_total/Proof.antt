@@ -11,7 +11,7 @@ use Rattle.arith.proofs.Order.{abs-add}
 use Rattle.arith.proofs.Machine.{Known, small, arg, _⟨+⟩_, fits, result}
 use Rattle.sheet.specs.declared.Stage.{Stage}
 use Rattle.lines.specs.Document01.{sumOf}
-use Rattle.groups.specs.Stages.{SmallGas}
+use Rattle.tiers.specs.Stages.{SmallGas}
 use Rattle.lines.proofs.Lists.{every-at}
 use Rattle.reader.proofs.Totals.{gas-more}
 use Rattle.reader.proofs.whole.gas_total.Statement.{statement}

@@ -1,0 +1,36 @@
+-- The number's place among those above it is below their count where it stands there already. Assumes nothing.
+use Prim.Native.Nat.{ℕ, _≤_}
+use mathlib.Core.Path.{_≡_, sym, ap, ap₂, _∙_}
+use mathlib.Core.List.{List, map}
+use native.Mathlib.Omega.{arith}
+use borrow.Author.Needs.{needs}
+use lib.Dec.{ltb}
+use lib.IntN.{ℤ}
+use lib.ListN.{length, take, length-take, length-map}
+use Rattle.sheet.specs.declared.Refusal.the-variants.{SectionTwice}
+use Rattle.sheet.specs.declared.Section.{Section as Sectionˢ}
+use Rattle.sheet.specs.Firing.{Section}
+use Rattle.sheet.specs.Shown.{section, before}
+use Rattle.lines.specs.Document01.{when, sectionLine}
+use Rattle.lines.specs.Rows.{sectionOf}
+use Rattle.tiers.specs.Surface.{twice}
+use Rattle.entries.proofs.Lines.{ruled-after}
+use Rattle.tiers.proofs.surface.new_section.Statement.{statement}
+use Rattle.tiers.proofs.surface.new_section.Tie as tie
+
+shown-length : (i : ℕ) (l : List Sectionˢ) → i ≤ length l → length (map section (take i l)) ≡ i
+shown-length i l h = length-map (take i l) section ∙ length-take i l ∙ omega arith
+
+returns : tie.Need-returns
+returns c =
+    let k = c .before .before .section-place in
+    let l = c .before .before .before .before .before .section-line in
+    let a = c .before .before .before .before .before .before .before in
+    let S = map section (take (a .args .i) (a .args .above)) in
+    let n = shown-length (a .args .i) (a .args .above) (omega (arith, a .pre .0)) in
+    rw (c .ruled .ensures)
+    (ruled-after (a .args .s .now) (a .args .p) (l .result .place) sectionLine (λ row. section (l .result .section) ≡ sectionOf row) (twice S) (ltb (k .result) (a .args .i)) SectionTwice
+    (λ row h. ap₂ (λ (x y : ℕ). when (ltb x y) SectionTwice) (ap (λ (z : ℤ). before z S) (sym (ap (λ (x : Section). x .number) h)) ∙ sym (k .ensures)) n) (l .ensures))
+
+pub new-section-spec : {M : Type 1} → statement M
+new-section-spec = tie.close (tie.spec (λ c κs. search needs) (λ c κs. search needs) (λ c κs. search needs) returns)

@@ -1,0 +1,65 @@
+-- The rows of the sections and of the walls, and what the code's arrays show of them.
+use Prim.Native.Nat.{ℕ, _≤_}
+use mathlib.Core.Path.{_≡_}
+use mathlib.Core.Bool.{Bool, true, not, _&&_}
+use mathlib.Core.List.{List, [], _∷_, map}
+use mathlib.Core.Option.{Option, none}
+use lib.ListN.{length, replicate}
+use lib.Dec.{ltb}
+use Rattle.sheet.specs.declared.Reading.{Reading}
+use Rattle.sheet.specs.declared.Refusal.{Refusal}
+use Rattle.sheet.specs.declared.Refusal.the-variants.{SectionTwice}
+use Rattle.sheet.specs.declared.Section.{Section as Sectionˢ}
+use Rattle.sheet.specs.Firing.{Section}
+use Rattle.sheet.specs.Shown.{section, before, laid, unread}
+use Rattle.text.specs.Bytes.{bytes}
+use Rattle.lines.specs.Schema.{Row}
+use Rattle.lines.specs.Reader.{Sheet, readLine, readRows}
+use Rattle.lines.specs.Document01.{at, when, sameKey, sectionLine, section-rule, wallLine, wall-rule}
+use Rattle.lines.specs.Rules.{Every, sections, stages}
+use Rattle.lines.specs.Rows.{sectionOf, wallOf}
+use Rattle.walls.specs.declared.Ruling.{Ruling}
+use Rattle.walls.proofs.Sections.{Distinct}
+use Rattle.walls.proofs.Readings.{Placed}
+use Rattle.entries.specs.declared.Place.{Place}
+use Rattle.tiers.specs.declared.surface.WallLine.{WallLine}
+use Rattle.entries.specs.Place.{After, ruled}
+use Rattle.amounts.specs.Taking.{wall}
+use Rattle.tiers.specs.Filling.{Filled}
+use Rattle.blank.specs.Blank.{blankSection}
+
+-- 6: a section number stands among those above it
+abbrev pub twice : List Section → Row → Option Refusal
+twice S row = when (ltb (before (at row 0) S) (length S)) SectionTwice
+
+-- no line with this key has been read
+abbrev pub lacks : List ℕ → Sheet → Bool
+lacks k [] = true
+lacks k (f ∷ fs) = not (sameKey k (f .key)) && lacks k fs
+
+-- the rows of the sections, no number twice
+pub record SectionsShown (k : ℕ) (lines : List Sectionˢ) (rows : List Row) : Type 0 where
+  pub filled : Filled section sectionOf blankSection 12 k lines rows
+  pub distinct : Distinct (map sectionOf rows)
+
+abbrev pub SectionsAfter : List ℕ → Place → ℕ → Place → List Sectionˢ → Type 0
+SectionsAfter s p k q lines = (seen : Sheet) → lacks (bytes "section") seen ≡ true → After s p (readRows k sectionLine section-rule seen []) q (SectionsShown k lines)
+
+-- a wall line before its rules; whatever it said, its stage is one of twelve
+pub record WallAfter (s : List ℕ) (p : Place) (r : WallLine) : Type 0 where
+  pub after : After s p (readLine wallLine (λ row. none)) (r .place) (λ row. wall (r .wall) ≡ wallOf row)
+  pub least : 1 ≤ r .wall .stage .0
+  pub most : r .wall .stage .0 ≤ 12
+
+-- the walls' readings by section and stage
+pub record WallsShown (S : List Section) (cells : List Reading) (rows : List Row) : Type 0 where
+  pub lie : cells ≡ laid S (replicate 144 unread) (map wallOf rows)
+  pub placed : Every (Placed S) (map wallOf rows)
+
+abbrev pub WallsAfter : List ℕ → Place → ℕ → List Section → ℕ → Place → List Reading → Type 0
+WallsAfter s p n S k q cells =
+    (seen : Sheet) → lacks (bytes "wall") seen ≡ true → map sectionOf (sections seen) ≡ S → length (stages seen) ≡ k → After s p (readRows n wallLine wall-rule seen []) q (WallsShown S cells)
+
+-- a wall line's place, once its rules are looked at
+abbrev pub settled : ℕ → Place → Ruling → Place
+settled n q r = ruled n q (r .broken) (r .why)
