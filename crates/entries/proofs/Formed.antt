@@ -18,10 +18,10 @@ use Rattle.lines.specs.Reader.{judged}
 use Rattle.line.specs.declared.Line.{Line}
 use Rattle.line.specs.Line.{zeros, handed, lineAt}
 use Rattle.entries.specs.declared.Place.{Place}
-use Rattle.entries.specs.Place.{good, refusedAt, Fair, Ready, Meets, After}
+use Rattle.entries.specs.Place.{good, goingOn, refusedAt, Fair, Ready, Meets, After}
 use Rattle.amounts.specs.Taking.{plainNumbers, from}
-use Rattle.entries.specs.Form.{readForm}
-use Rattle.entries.proofs.Places.{not-both, refused-bad}
+use Rattle.entries.specs.Form.{readForm, FormAfter}
+use Rattle.entries.proofs.Places.{not-both, refused-bad, after-weaker}
 use Rattle.entries.proofs.Lines.{in-form}
 
 -- ---- the numbers of a row, taken out of the array that it fills from the front
@@ -57,33 +57,39 @@ module _ (s : List ℕ) (p : Place) (key : List ℕ) (n : ℕ) (r : Ready s p) (
   refused-cases P (refused x) q e = refl
   refused-cases P (values row size) q e = let f = in-form key n text row size q in absurd (omega (arith, f .some))
 
-  pub due-refused : (l : Line) (P : Row → Type 0) → l ≡ lineAt s (p .at) key n → l .next ≡ 0 → After s p (readForm key n) (refusedAt (l .refusal) (p .line)) P
+  pub form-refused : (l : Line) (P : Row → Type 0) → l ≡ lineAt s (p .at) key n → l .next ≡ 0 → After s p (readForm key n) (refusedAt (l .refusal) (p .line)) P
   unfolding lineAt
-  due-refused l P e z = record {
+  form-refused l P e z = record {
     reads = λ h. rw e (refused-cases P (formedBy key n text) refl (sym (ap (λ (x : Line). x .next) e) ∙ z));
     passes = λ h. not-both (good p) yes h;
     fair = λ h. not-both (good (refusedAt (l .refusal) (p .line))) h (refused-bad (l .refusal) (p .line));
   }
 
   -- one that is handed out with numbers is read, and they are its row's
-  read-cases : (v : List Number) (j : Judged) → n ≤ 13 → formedBy key n text ≡ j → (handed (p .at) j .next ≡ 0 → ⊥) → plainNumbers v ≡ handed (p .at) j .values
-      → Meets s (judged j (λ row. none) (p .line) text) (record { kind = 0; field = 0; line = p .line + 1; at = handed (p .at) j .next }) (λ row. from 0 n v ≡ row .numbers)
-      × Fair s (record { kind = 0; field = 0; line = p .line + 1; at = handed (p .at) j .next })
-  read-cases v (refused x) h q e w = absurd (e refl)
-  read-cases v (values row size) h q e w =
+  read-cases : (j : Judged) → formedBy key n text ≡ j → (handed (p .at) j .next ≡ 0 → ⊥)
+      → Meets s (judged j (λ row. none) (p .line) text) (goingOn (p .line) (handed (p .at) j .next)) (λ row. (handed (p .at) j .values ≡ sets zeros 0 (row .numbers)) × (length (row .numbers) ≡ n))
+      × Fair s (goingOn (p .line) (handed (p .at) j .next))
+  read-cases (refused x) q e = absurd (e refl)
+  read-cases (values row size) q e =
       let f = in-form key n text row size q in
       let g = r .fair yes in
       let b : length (upTo 10 text) < length text = ltb-true (length (upTo 10 text)) (length text) (f .within) in (
-        (record { sound = refl; line = add-one (p .line); left = sym (drop-drop size (p .at) s) }, from-row v (row .numbers) n h (f .count) w),
+        (record { sound = refl; line = add-one (p .line); left = sym (drop-drop size (p .at) s) }, (refl, f .count)),
         record { field = refl; line = omega (arith, f .some, g .line); within = omega (arith, f .long, b, g .within, length-drop (p .at) s) },
       )
 
-  pub due-read : (l : Line) (v : List Number) → n ≤ 13 → l ≡ lineAt s (p .at) key n → (l .next ≡ 0 → ⊥) → plainNumbers v ≡ l .values
-      → After s p (readForm key n) (record { kind = 0; field = 0; line = p .line + 1; at = l .next }) (λ row. from 0 n v ≡ row .numbers)
+  pub form-read : (l : Line) → l ≡ lineAt s (p .at) key n → (l .next ≡ 0 → ⊥) → FormAfter s p key n (goingOn (p .line) (l .next)) (l .values)
   unfolding lineAt
-  due-read l v h e z w =
-      let c = read-cases v (formedBy key n text) h refl (λ x. z (ap (λ (y : Line). y .next) e ∙ x)) (w ∙ ap (λ (y : Line). y .values) e) in
+  form-read l e z =
+      let c = read-cases (formedBy key n text) refl (λ x. z (ap (λ (y : Line). y .next) e ∙ x)) in
       rw e (record { reads = λ x. c .0; passes = λ x. not-both (good p) yes x; fair = λ x. c .1 })
 
-pub due-passed : {A : Type 0} (s : List ℕ) (p : Place) (m : Rattle.lines.specs.Reader.Reader A) (P : A → Type 0) → good p ≡ false → After s p m p P
-due-passed s p m P e = record { reads = λ h. not-both (good p) h e; passes = λ h. refl; fair = λ h. not-both (good p) h e }
+-- the numbers taken out of the array
+pub due-form : (s : List ℕ) (p : Place) (key : List ℕ) (n : ℕ) (q : Place) (v : List ℤ) (w : List Number) → n ≤ 13 → plainNumbers w ≡ v → FormAfter s p key n q v
+    → After s p (readForm key n) q (λ row. from 0 n w ≡ row .numbers)
+due-form s p key n q v w h e a =
+    after-weaker s p q (readForm key n) (λ row. (v ≡ sets zeros 0 (row .numbers)) × (length (row .numbers) ≡ n)) (λ row. from 0 n w ≡ row .numbers)
+    (λ row g. from-row w (row .numbers) n h (g .1) (e ∙ g .0)) a
+
+pub form-passed : {A : Type 0} (s : List ℕ) (p : Place) (m : Rattle.lines.specs.Reader.Reader A) (P : A → Type 0) → good p ≡ false → After s p m p P
+form-passed s p m P e = record { reads = λ h. not-both (good p) h e; passes = λ h. refl; fair = λ h. not-both (good p) h e }

@@ -1,5 +1,5 @@
 -- How the code's small place stands for the definitions' state: they go by the text that is left, the code by a place in the whole.
-use Prim.Native.Nat.{ℕ, suc, _≤_}
+use Prim.Native.Nat.{ℕ, suc, _+_, _≤_}
 use mathlib.Core.Path.{_≡_}
 use mathlib.Core.Bool.{Bool, true, false, cond, not, _&&_}
 use mathlib.Core.List.{List}
@@ -43,6 +43,10 @@ reason p = refusalOf (p .kind) (p .field)
 
 abbrev pub refusedAt : Refusal → ℕ → Place
 refusedAt r n = record { kind = kind r; field = field r; line = n; at = 0 }
+
+-- the place before the line after this one
+abbrev pub goingOn : ℕ → ℕ → Place
+goingOn n at = record { kind = 0; field = 0; line = n + 1; at = at }
 
 -- a place that is not refused: every line above has at least a byte, so its number fits wherever a place does
 pub record Fair (s : List ℕ) (p : Place) : Type 0 where

@@ -12,7 +12,7 @@ ghost use Rattle.lines.specs.Rules.{Every};
 ghost use Rattle.entries.specs.Place.{Ready, After};
 ghost use Rattle.amounts.specs.Taking.{shares};
 use crate::Place;
-use crate::due;
+use crate::form;
 use crate::ranged;
 use crate::ruled;
 use amounts::gas_of;
@@ -76,10 +76,11 @@ pub fn gas_line(s: &[u8], p: Place) -> GasLine
     requires { ⌜ Ready (now s) p ⌝ }
     ensures { λ r. ⌜ After (now (s .entry)) p (readLine gasLine (gas-rule [])) (r .place) (λ row. shares (r .gas) ≡ row .numbers) ⌝ }
 {
-    let d = due(s, p, b"gas=", 13);
-    let v = d.values;
+    let mut numbers = [0; 13];
+    let behind = line::behind(s, p.at, b"gas=");
+    let q = form(s, p, b"gas=", behind, 13, &mut numbers);
+    let v = amounts::numbers(numbers);
     let t = gas_of(v);
-    let q = d.place;
     let inside = ranged(p.line, q, t.fault);
     let gas = t.gas;
     let place = ruled(p.line, inside, unburnable(gas), Refusal::Shares);

@@ -6,9 +6,13 @@ pub mod gas;
 use limits::Number;
 use sheet::Refusal;
 ghost use mathlib.Core.Path.{_≡_};
-ghost use Prim.Native.Nat.{_≤_};
-ghost use Rattle.entries.specs.Place.{refusedAt, Ready, ranged as rangedPlace, ruled as ruledPlace};
-ghost use Rattle.entries.specs.Form.{DueAfter};
+ghost use mathlib.Core.Bool.{true};
+ghost use Prim.Native.Nat.{_+_, _≤_};
+ghost use lib.ListN.{length};
+ghost use Rattle.line.specs.Line.{zeros};
+ghost use Rattle.line.specs.Fields.{Keyed};
+ghost use Rattle.entries.specs.Place.{good, goingOn, refusedAt, Ready, ranged as rangedPlace, ruled as ruledPlace};
+ghost use Rattle.entries.specs.Form.{FormAfter, DueAfter};
 
 // Where the reading stands: before the line with a number, at a place of the text; or refused, with the line that was. The kind is 0 for as
 // long as nothing is refused (`coded`).
@@ -37,39 +41,91 @@ fn refused(refusal: Refusal, line: usize) -> Place
     }
 }
 
-// Reads the form of the line that is due; a refused place passes through.
+// The place before the line after this one, which begins there.
+fn onward(line: usize, at: usize) -> Place
+    requires { ⌜ line ≤ 16385 ⌝ }
+    ensures { λ r. ⌜ r ≡ goingOn line at ⌝ }
+{
+    Place {
+        kind: 0,
+        field: 0,
+        line: line + 1,
+        at,
+    }
+}
+
+// Lays numbers into an array that is lent.
+fn lay(numbers: [i64; 13], v: &mut [i64; 13])
+    requires { ⌜ length (now v) ≡ 13 ⌝ }
+    ensures { λ _. ⌜ now (v .exit) ≡ numbers ⌝ }
+{
+    let mut i = 0;
+    while i < 13 {
+        v[i] = numbers[i];
+        i += 1;
+    }
+}
+
+// Reads a line that is not plainly in form, or names its fault.
+fn careful(s: &[u8], p: Place, key: &[u8], n: usize, v: &mut [i64; 13]) -> Place
+    requires { ⌜ n ≤ 13 ⌝ }
+    requires { ⌜ Ready (now s) p ⌝ }
+    requires { ⌜ good p ≡ true ⌝ }
+    requires { ⌜ length (now v) ≡ 13 ⌝ }
+    ensures { λ r. ⌜ FormAfter (now (s .entry)) p (now (key .entry)) n r (now (v .exit)) ⌝ }
+{
+    let l = line::judged(s, p.at, key, n);
+    let line = p.line;
+    let next = l.next;
+    if next == 0 {
+        let why = l.refusal;
+        return refused(why, line);
+    }
+    let values = l.values;
+    lay(values, v);
+    onward(line, next)
+}
+
+// Reads the form of the line that is due into an array of zeros, from the place behind its key, which is 0 where another key stands there; a
+// refused place passes through. Since `due` and `gas_line` both call it, the compiler does not copy it into every line's function.
+pub fn form(s: &[u8], p: Place, key: &[u8], behind: usize, n: usize, v: &mut [i64; 13]) -> Place
+    requires { ⌜ n ≤ 13 ⌝ }
+    requires { ⌜ Ready (now s) p ⌝ }
+    requires { ⌜ ((behind ≡ 0 → ⊥) → Keyed (now s) (p .at) (now key) × (behind ≡ p .at + length (now key))) ⌝ }
+    requires { ⌜ now v ≡ zeros ⌝ }
+    ensures { λ r. ⌜ FormAfter (now (s .entry)) p (now (key .entry)) n r (now (v .exit)) ⌝ }
+{
+    if p.kind == 0 {
+        if behind != 0 {
+            let next = line::row(s, behind, n, v);
+            if next != 0 {
+                return onward(p.line, next);
+            }
+        }
+        return careful(s, p, key, n, v);
+    }
+    p
+}
+
+// The form of the line that is due, with its numbers. The key stands in the caller, so its bytes are compared with constants; and the place is
+// put together anew from its fields, for else the compiler has `form` write into this struct, which then stays in memory.
 pub fn due(s: &[u8], p: Place, key: &[u8], n: usize) -> LineDue
     requires { ⌜ n ≤ 13 ⌝ }
     requires { ⌜ Ready (now s) p ⌝ }
     ensures { λ r. ⌜ DueAfter (now (s .entry)) p (now (key .entry)) n r ⌝ }
 {
-    if p.kind == 0 {
-        let at = p.at;
-        let l = line::read_line(s, at, key, n);
-        let v = l.values;
-        let values = amounts::numbers(v);
-        let next = l.next;
-        let line = p.line;
-        if next == 0 {
-            let why = l.refusal;
-            return LineDue {
-                place: refused(why, line),
-                values,
-            };
-        }
-        return LineDue {
-            place: Place {
-                kind: 0,
-                field: 0,
-                line: line + 1,
-                at: next,
-            },
-            values,
-        };
-    }
+    let mut v = [0; 13];
+    let behind = line::behind(s, p.at, key);
+    let q = form(s, p, key, behind, n, &mut v);
+    let values = amounts::numbers(v);
     LineDue {
-        place: p,
-        values: [Number(0); 13],
+        place: Place {
+            kind: q.kind,
+            field: q.field,
+            line: q.line,
+            at: q.at,
+        },
+        values,
     }
 }
 

@@ -3,9 +3,10 @@
 use mathlib.Core.Path.{_≡_, refl, sym, ap, _∙_}
 use mathlib.Core.Bool.{Bool, true, false, _&&_}
 use mathlib.Core.List.{List, [], _∷_, _++_}
-use Prim.Native.Nat.{ℕ, _+_, _-_, _*_, _≤_, _<_}
-use native.Mathlib.Nat.{add-zero}
+use Prim.Native.Nat.{ℕ, _+_, _-_, _*_, _^_, _≤_, _<_}
+use native.Mathlib.Nat.{add-zero, pow-le-pow-right}
 use native.Mathlib.Numerals.{add-one}
+use native.Mathlib.Decide.{decLe}
 use native.Mathlib.Omega.{arith}
 use lib.ListN.{length, getD, drop, set, length-append}
 use lib.Seq.{drop-cons, getD-take, getD-drop}
@@ -59,14 +60,26 @@ module _ (s : List ℕ) (c i : ℕ) (h : i < length s) (m : ℕ) where
   unfolding digitsRead upTo
   digit-end e = rw (drop-cons s i 0, eq-eqb (getD s i 0) c e)
 
+-- a number below 10⁹ has no tenth digit
+pub few : (e m : ℕ) → 10 ^ e ≤ m → m < 1000000000 → e ≤ 8
+few e m h l = go (decLe e 8)
+  where
+    go : Dec (e ≤ 8) → e ≤ 8
+    go (yes p) = p
+    go (no f) =
+        let g : 9 ≤ e = omega arith in
+        let p : 10 ^ 9 ≤ 10 ^ e = pow-le-pow-right {n = 10} (lit< tt) g in
+        let z : ⊥ = omega arith in
+        absurd z
+
 -- THE LAW: the digits that the loop has seen are a number
-pub digits-seen : (s : List ℕ) (at c k m : ℕ) → at + k < length s → getD s (at + k) 0 ≡ c → 0 < k → k ≤ 9 → (1 < k → getD s at 0 ≡ 48 → ⊥) →
-    find s (at + k) c ≡ find s at c → digitsRead m (upTo c (drop (at + k) s)) ≡ digitsRead 0 (upTo c (drop at s)) → Number s at c (pos m) (at + k + 1)
+pub digits-seen : (s : List ℕ) (at c k m : ℕ) → at < k → k < length s → getD s k 0 ≡ c → k ≤ at + 9 → (at + 1 < k → getD s at 0 ≡ 48 → ⊥) →
+    find s k c ≡ find s at c → digitsRead m (upTo c (drop k s)) ≡ digitsRead 0 (upTo c (drop at s)) → Number s at c (pos m) (k + 1)
 unfolding numberWithin unsigned
-digits-seen s at c k m h e p q z f d =
+digits-seen s at c k m p h e q z f d =
     let l = upTo c (drop at s) in
-    let g = find-hit c s (at + k) h e in
-    let r : digitsRead 0 l ≡ Value (pos m) = sym d ∙ digit-end s c (at + k) h m e in
+    let g = find-hit c s k h e in
+    let r : digitsRead 0 l ≡ Value (pos m) = sym d ∙ digit-end s c k h m e in
     let b : getD l 0 0 ≡ getD s at 0 = ap (λ (x : List ℕ). getD x 0 0) (sym (upTo-front c (drop at s))) ∙ getD-take (length l) (drop at s) 0 0 (omega arith) ∙ getD-drop at s 0 0 ∙ rw (add-zero at) in
     record {
       inside = omega arith;

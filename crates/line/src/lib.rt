@@ -1,11 +1,16 @@
-// One line of a sheet: its form is judged, and its numbers are read.
+// One line of a sheet: its form is judged, and its numbers are read. A good line is read in one pass (`behind`, `row`), and any other is read
+// again (`judged`), so that its fault has a name.
 ghost use mathlib.Core.Path.{_≡_};
-ghost use Prim.Native.Nat.{_≤_};
-ghost use Rattle.line.specs.Line.{lineAt};
+ghost use Prim.Native.Nat.{_+_};
+ghost use lib.ListN.{length};
+ghost use Rattle.line.specs.Fields.{Keyed};
 use sheet::Refusal;
 
 mod careful;
 mod quick;
+
+pub use careful::judged;
+pub use quick::row;
 
 // What was read where a line is due: `Accepted`, its numbers and the place after it, or why it is refused.
 pub struct Line {
@@ -14,21 +19,12 @@ pub struct Line {
     pub values: [i64; 13],
 }
 
-// The line at a place: a good one is read in one pass, and any other is read again, so that its fault has a name.
-pub fn read_line(s: &[u8], at: usize, key: &[u8], n: usize) -> Line
-    requires { ⌜ n ≤ 13 ⌝ }
-    ensures { λ r. ⌜ r ≡ lineAt (now (s .entry)) at (now (key .entry)) n ⌝ }
+// The place behind the key that stands at a place; 0 where it does not stand there.
+pub fn behind(s: &[u8], at: usize, key: &[u8]) -> usize
+    ensures { λ r. ⌜ ((r ≡ 0 → ⊥) → Keyed (now (s .entry)) at (now (key .entry)) × (r ≡ at + length (now (key .entry)))) ⌝ }
 {
     if quick::keyed(s, at, key) {
-        let mut values = [0i64; 13];
-        let next = quick::row(s, at + key.len(), n, &mut values);
-        if next != 0 {
-            return Line {
-                refusal: Refusal::Accepted,
-                next,
-                values,
-            };
-        }
+        return at + key.len();
     }
-    careful::judged(s, at, key, n)
+    0
 }

@@ -1,9 +1,10 @@
 // The quick reader: one pass over a line that is as it should be. Where anything is not, it says no, and names no fault.
 ghost use mathlib.Core.Path.{_≡_};
 ghost use mathlib.Core.Bool.{true};
-ghost use Prim.Native.Nat.{_≤_};
+ghost use Prim.Native.Nat.{_≤_, _<_};
+ghost use lib.ListN.{length};
 ghost use Rattle.line.specs.Fields.{accepted, fieldsAt, Keyed, Number};
-use text::Num;
+use std::num::wrapping_sub_u8;
 
 // A number and the place after the byte that closes it; place 0 where there is none.
 struct Whole {
@@ -32,6 +33,7 @@ pub fn keyed(s: &[u8], at: usize, key: &[u8]) -> bool
 pub fn row(s: &[u8], start: usize, n: usize, v: &mut [i64; 13]) -> usize
     requires { ⌜ n ≤ 13 ⌝ }
     ensures { λ r. ⌜ ((r ≡ 0 → ⊥) → accepted r (now (v .exit)) ≡ fieldsAt (now (s .entry)) start n 0 (now (v .entry))) ⌝ }
+    ensures { λ _. ⌜ length (now (v .exit)) ≡ length (now (v .entry)) ⌝ }
 {
     let mut at = start;
     let mut i = 0;
@@ -52,56 +54,39 @@ pub fn row(s: &[u8], start: usize, n: usize, v: &mut [i64; 13]) -> usize
     0
 }
 
-// The number at a place that the byte c closes.
+// The number without a sign at a place that the byte c closes. A sign is rare, so the careful reader has it.
 fn number(s: &[u8], at: usize, c: u8) -> Whole
+    requires { ⌜ c < 48 ⌝ }
     ensures { λ r. ⌜ ((r .next ≡ 0 → ⊥) → Number (now (s .entry)) at c (r .value) (r .next)) ⌝ }
 {
-    let q = digits(s, at, c);
-    if q.next != 0 {
-        return q;
-    }
-    let e = text::find(s, at, c);
-    if e < s.len() {
-        match text::number(&s[at..e]) {
-            Num::Value(z) => {
-                return Whole {
-                    value: z,
-                    next: e + 1,
-                };
-            }
-            Num::NotANumber => {}
-        }
-    }
-    Whole { value: 0, next: 0 }
-}
-
-// The same of a number without a sign that stands well before the end of the sheet: ten steps, which the compiler unrolls.
-fn digits(s: &[u8], at: usize, c: u8) -> Whole
-    ensures { λ r. ⌜ ((r .next ≡ 0 → ⊥) → Number (now (s .entry)) at c (r .value) (r .next)) ⌝ }
-{
-    if s.len() < 10 || s.len() - 10 < at {
+    if s.len() <= at {
         return Whole { value: 0, next: 0 };
     }
-    let mut m: u64 = 0;
-    let mut k = 0;
-    while k < 10 {
-        let b = s[at + k];
-        if b == c {
-            if k == 0 {
+    let first = s[at];
+    if first < b'0' || b'9' < first {
+        return Whole { value: 0, next: 0 };
+    }
+    let mut m = (first - b'0') as u64;
+    let mut k = at + 1;
+    while k < s.len() {
+        let b = s[k];
+        let d = wrapping_sub_u8(b, b'0');
+        if 9 < d {
+            if b != c {
                 return Whole { value: 0, next: 0 };
             }
-            if 1 < k && s[at] == b'0' {
+            if first == b'0' && at + 1 < k {
                 return Whole { value: 0, next: 0 };
             }
             return Whole {
                 value: m as i64,
-                next: at + k + 1,
+                next: k + 1,
             };
         }
-        if b < b'0' || b'9' < b {
+        if 99_999_999 < m {
             return Whole { value: 0, next: 0 };
         }
-        m = m * 10 + (b - b'0') as u64;
+        m = m * 10 + d as u64;
         k += 1;
     }
     Whole { value: 0, next: 0 }

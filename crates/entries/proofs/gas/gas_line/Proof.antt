@@ -3,6 +3,7 @@ use mathlib.Core.Path.{_≡_, sym, ap, _∙_}
 use mathlib.Core.Bool.{Bool, not, _&&_}
 use mathlib.Core.List.{List, []}
 use borrow.Author.Needs.{needs}
+use lib.Dec.{lit≤}
 use lib.IntN.{ℤ, pos}
 use lib.Signed.{ltZ}
 use Rattle.sheet.specs.declared.Refusal.the-variants.{Shares}
@@ -11,25 +12,40 @@ use Rattle.lines.specs.Document01.{when, sumOf, weigh, airWeights, gasLine, gas
 use Rattle.amounts.specs.Taking.{shares}
 use Rattle.entries.proofs.Places.{after-left}
 use Rattle.entries.proofs.Lines.{line-after, ruled-after}
+use Rattle.entries.proofs.Formed.{due-form}
 use Rattle.entries.proofs.gas.gas_line.Statement.{statement}
 use Rattle.entries.proofs.gas.gas_line.Tie as tie
 
 unburnable-requires : tie.Need-unburnable-requires
-unburnable-requires c κs = c .before .before .before .gas-of .ensures .small
+unburnable-requires c κs = c .before .before .gas-of .ensures .small
 
 returns : tie.Need-returns
 returns c =
     let u = c .before .unburnable in
     let g = c .before .before .before in
-    let t = g .before .before .gas-of in
-    let d = g .before .before .before .before .due in
-    let a = g .before .before .before .before .before .before .before .args in
+    let t = g .before .gas-of in
+    let n = g .before .before .numbers2 in
+    let f = g .before .before .before .form in
+    let a = g .before .before .before .before .before .before .before .before .before in
     let shown = shares (t .result .gas) in
     let whole : List ℤ → Bool = λ zs. not (same (sumOf zs) (pos 10000) && ltZ (pos 0) (weigh airWeights zs)) in
+    let d = due-form (a .args .s .now) (a .args .p) _ 13 (f .result) _ (n .result) (lit≤ tt) (n .ensures) (f .ensures) in
     rw (c .ruled .ensures)
-    (after-left (ruled-after (a .s .now) (a .p) (g .ranged .result) gasLine (λ row. shown ≡ row .numbers) (gas-rule []) (u .result) Shares
+    (after-left (ruled-after (a .args .s .now) (a .args .p) (g .ranged .result) gasLine (λ row. shown ≡ row .numbers) (gas-rule []) (u .result) Shares
     (λ row h. sym (ap (λ (t : Bool). when t Shares) (u .ensures ∙ ap whole h)))
-    (rw (g .ranged .ensures) (line-after (a .s .now) (a .p) (d .result .place) gasLine (d .result .values) (t .result .fault) (λ zs. shown ≡ zs) (d .ensures) (t .ensures .takes)))))
+    (rw (g .ranged .ensures) (line-after (a .args .s .now) (a .args .p) (f .result) gasLine (n .result) (t .result .fault) (λ zs. shown ≡ zs) d (t .ensures .takes)))))
 
 pub gas-line-spec : {M : Type 1} → statement M
-gas-line-spec = tie.close (tie.spec (λ c. search needs) (λ c κs. search needs) (λ c κs. search needs) (λ c κs. search needs) unburnable-requires (λ c κs. search needs) returns)
+gas-line-spec =
+    tie.close
+    (tie.spec
+    (λ c. search needs)
+    (λ c κs. search needs)
+    (λ c. search needs)
+    (λ c κs. search needs)
+    (λ c κs. search needs)
+    (λ c κs. search needs)
+    (λ c κs. search needs)
+    unburnable-requires
+    (λ c κs. search needs)
+    returns)

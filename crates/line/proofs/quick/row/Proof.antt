@@ -4,9 +4,11 @@ use mathlib.Core.Path.{_≡_, refl, sym, _∙_}
 use mathlib.Core.Logic.{⊎-elim}
 use Prim.Native.Nat.{_-_}
 use native.Mathlib.Omega.{arith}
+use lib.ListN.{length, length-set}
 use mir.Syntax.{w64}
 use mir.Val.{toZ, ofZ}
 use mir.ValLaws.{toZ-ofZ}
+use lib.Dec.{lit<}
 use borrow.Author.Needs.{needs}
 use Rattle.line.specs.Fields.{fieldsAt}
 use Rattle.line.proofs.Numbers.{row-more, row-last}
@@ -14,7 +16,7 @@ use Rattle.line.proofs.quick.row.Statement.{statement}
 use Rattle.line.proofs.quick.row.Tie as tie
 
 abbrev Inv-loop : tie.InvT-loop
-Inv-loop s start n v₀ at₀ i₀ v at i = fieldsAt s at n i v ≡ fieldsAt s start n 0 v₀
+Inv-loop s start n v₀ at₀ i₀ v at i = (fieldsAt s at n i v ≡ fieldsAt s start n 0 v₀) × (length v ≡ length v₀)
 
 abbrev μ-loop : tie.MeasureT-loop
 μ-loop s start n v₀ at₀ i₀ v at i = n - i
@@ -30,10 +32,10 @@ add-if1 : tie.Need-add-if1 Inv-loop μ-loop
 add-if1 c = search needs
 
 number-requires : tie.Need-number-requires Inv-loop μ-loop
-number-requires c κs = search needs
+number-requires c κs = ⊎-elim (λ w. rw (w .1) (lit< tt)) (λ w. rw (w .1) (lit< tt)) (c .if1 .came)
 
 returns : tie.Need-returns Inv-loop μ-loop
-returns c = λ q. absurd (q refl)
+returns c = ((λ q. absurd (q refl)), c .before .before .before .before .before .loop .inv .1)
 
 mul-z : tie.Need-mul-z Inv-loop μ-loop
 mul-z c = search needs
@@ -45,10 +47,10 @@ add-i : tie.Need-add-i Inv-loop μ-loop
 add-i c = search needs
 
 returns-2 : tie.Need-returns-2 Inv-loop μ-loop
-returns-2 c = λ q.
+returns-2 c =
     let j = c .before .before .before .before .before in
     let h : j .if1 .c ≡ 10 = ⊎-elim (λ w. w .1) (λ w. absurd (w .0 .left (c .if3 .taken))) (j .if1 .came) in
-    rw (kept (c .before)) (sym (row-last _ _ _ _ _ _ _ (rw h at (c .before .before .before .before .number .ensures q)) (c .if3 .taken)) ∙ j .before .before .loop .inv)
+    ((λ q. rw (kept (c .before)) (sym (row-last _ _ _ _ _ _ _ (rw h at (c .before .before .before .before .number .ensures q)) (c .if3 .taken)) ∙ j .before .before .loop .inv .0)), simp length-set (j .before .before .loop .inv .1))
 
 loop-less : tie.Need-loop-less Inv-loop μ-loop
 loop-less c = search needs
@@ -58,10 +60,10 @@ loop-again c =
     let j = c .before .before .before .before .before in
     let l = j .before .before .loop in
     let h : j .if1 .c ≡ 44 = ⊎-elim (λ w. absurd (c .if3 .left (w .0 .taken))) (λ w. w .1) (j .if1 .came) in
-    rw (kept (c .before)) (sym (row-more _ _ _ _ _ _ _ (rw h at (c .before .before .before .before .number .ensures (c .before .before .if2 .left)))) ∙ l .inv)
+    ((rw (kept (c .before)) (sym (row-more _ _ _ _ _ _ _ (rw h at (c .before .before .before .before .number .ensures (c .before .before .if2 .left)))) ∙ l .inv .0)), simp length-set (l .inv .1))
 
 returns-3 : tie.Need-returns-3 Inv-loop μ-loop
-returns-3 c = λ q. absurd (q refl)
+returns-3 c = ((λ q. absurd (q refl)), c .before .loop .inv .1)
 
 pub row-spec : {M : Type 1} → statement M
 row-spec =

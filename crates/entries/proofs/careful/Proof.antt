@@ -1,0 +1,38 @@
+-- The line is what the careful reader says, and its numbers are laid into the array. Assumes nothing.
+use native.Mathlib.Omega.{arith}
+use borrow.Author.Needs.{needs}
+use Rattle.entries.proofs.Formed.{form-refused, form-read}
+use Rattle.entries.proofs.careful.Statement.{statement}
+use Rattle.entries.proofs.careful.Tie as tie
+
+judged-requires : tie.Need-judged-requires
+judged-requires c κs = search needs
+
+refused-requires : tie.Need-refused-requires
+refused-requires c κs = search needs
+
+returns : tie.Need-returns
+returns c =
+    let l = c .before .before .judged in
+    let a = c .before .before .before .before .before in
+    rw (c .refused .ensures) (form-refused (a .args .s .now) (a .args .p) (a .args .key .now) (a .args .n) (a .pre .1 .0) (a .pre .1 .1 .0) (l .result) _ (l .ensures) (c .before .if1 .taken))
+
+lay-requires : tie.Need-lay-requires
+lay-requires c κs = c .before .before .before .before .before .before .pre .1 .1 .1
+
+onward-requires : tie.Need-onward-requires
+onward-requires c κs =
+    let a = c .before .before .before .before .before .before .before in
+    let f = a .pre .1 .0 .fair (a .pre .1 .1 .0) in
+    omega (arith, f .line, f .within, a .pre .1 .0 .short)
+
+returns-2 : tie.Need-returns-2
+returns-2 c =
+    let l = c .before .before .before .before .before .judged in
+    let a = c .before .before .before .before .before .before .before .before in
+    rw (c .onward .ensures, c .before .lay .ensures) (form-read (a .args .s .now) (a .args .p) (a .args .key .now) (a .args .n) (a .pre .1 .0) (a .pre .1 .1 .0) (l .result) (l .ensures) (c .before .before .before .before .if1 .left))
+
+pub careful-spec : {M : Type 1} → statement M
+careful-spec =
+    tie.close
+    (tie.spec judged-requires refused-requires returns lay-requires onward-requires returns-2)
