@@ -55,3 +55,9 @@ newton n x h =
     let y = (x + q) / 2 + 1 in
     let s : x + suc q ≤ 2 * y = omega arith in
     omega (arith, means x (suc q), mul-le-mul s s, lt-div-mul-add {a = n} h)
+
+-- the mean of 2 · r and n / (2 · r), by one division, is not below the root either
+pub from-twice : (n r : ℕ) → 0 < r → n < (n / (4 * r) + r + 1) * (n / (4 * r) + r + 1)
+from-twice n r h =
+    let d : 0 < 4 * r = omega arith in
+    omega (arith, means r (suc (n / (4 * r))), lt-div-mul-add {a = n} d)

@@ -21,8 +21,8 @@ pub fn nearest(n: i64, d: i64) -> i64
     }
 }
 
-// A number from which the root of n is sought downward: not below it, and at most four times as large where n has 41 digits or more in
-// base 2.
+// A number from which the root of n is sought downward, and not below it. Where n has 41 to 60 digits in base 2 it is Newton's step from
+// a power of 2 near the root, for which a shift divides; for fewer and for more, the greatest root that such an n can have.
 fn start(n: u64) -> u64
     ensures { λ r. ⌜ (0 < r) × (r < 2 ^ 32) × (n < (r + 1) * (r + 1)) ⌝ }
 {
@@ -30,19 +30,19 @@ fn start(n: u64) -> u64
         return 1_048_575;
     }
     if n < 17_592_186_044_416 {
-        return 4_194_303;
+        return n / 4_194_304 + 1_048_576;
     }
     if n < 281_474_976_710_656 {
-        return 16_777_215;
+        return n / 16_777_216 + 4_194_304;
     }
     if n < 4_503_599_627_370_496 {
-        return 67_108_863;
+        return n / 67_108_864 + 16_777_216;
     }
     if n < 72_057_594_037_927_936 {
-        return 268_435_455;
+        return n / 268_435_456 + 67_108_864;
     }
     if n < 1_152_921_504_606_846_976 {
-        return 1_073_741_823;
+        return n / 1_073_741_824 + 268_435_456;
     }
     4_294_967_295
 }
@@ -55,10 +55,8 @@ pub fn floor_root(n: u64) -> u64
         return 0;
     }
     let mut x = start(n);
-    let mut q = n / x;
-    while q < x {
-        x = (x + q) / 2;
-        q = n / x;
+    while n < x * x {
+        x = (x + n / x) / 2;
     }
     x
 }
