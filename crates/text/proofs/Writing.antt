@@ -63,3 +63,14 @@ next {at} {end} {a = a} {b} {old} w v = record {
 pub one-byte : (at b : ℕ) (old : List ℕ) → at < length old → Written at (b ∷ []) old (set old at b) (at + 1)
 unfolding over
 one-byte at b old h = record { ends = refl; holds = set-split old at b h ∙ rw (drop-drop, add-one) }
+
+pub over-none : (old : List ℕ) → over 0 [] old ≡ old
+unfolding over
+over-none old = refl
+
+-- the last byte of a text may be written before the others
+pub last-first : (at b : ℕ) (a old : List ℕ) → length a ≡ at → at < length old → over 0 a (set old at b) ≡ over 0 (a ++ (b ∷ [])) old
+unfolding over
+last-first at b a old e h =
+    let d : drop at (set old at b) ≡ b ∷ drop (suc at) old = rw (set-split old at b h) (drop-at (take at old) (b ∷ drop (suc at) old) at (length-take-le at old (omega arith))) in
+    rw (length-append, append-assoc, e, d, add-one)

@@ -78,19 +78,20 @@ fn digits_at(out: &mut [u8], at: usize, n: u64) -> usize
     at + put_digits(&mut out[at..], n)
 }
 
-// Puts digits at the front, and answers how many there are.
+// Puts digits at the front, the last of them first, and answers how many there are.
 fn put_digits(out: &mut [u8], n: u64) -> usize
     requires { ⌜ length (digits n) ≤ length (now out) ⌝ }
     ensures { λ r. ⌜ Written 0 (digits n) (now (out .entry)) (now (out .exit)) r ⌝ }
 {
-    if n < 10 {
-        out[0] = (48 + n) as u8;
-        1
-    } else {
-        let k = put_digits(out, n / 10);
-        out[k] = (48 + n % 10) as u8;
-        k + 1
+    let k = digit_count(n);
+    let mut rest = n;
+    let mut i = k;
+    while 0 < i {
+        i -= 1;
+        out[i] = (48 + rest % 10) as u8;
+        rest /= 10;
     }
+    k
 }
 
 // Puts bytes at a place, and answers where they end.
