@@ -1,4 +1,4 @@
-// What stands in a struct where nothing was read: the least of each quantity.
+// What stands in a struct where nothing was read: 0 in every field, so that an array of them is laid out by one fill of memory.
 ghost use mathlib.Core.Path.{_≡_};
 ghost use Rattle.sheet.specs.Shown.{unread};
 ghost use Rattle.blank.specs.Blank.{blankStage, blankSetter, blankPart, blankSection, blankHead, blankSheet};
@@ -48,11 +48,11 @@ pub fn stage() -> Stage
     ensures { λ r. ⌜ r ≡ blankStage ⌝ }
 {
     Stage {
-        gas: CubicMetres(CubicMetres::LEAST),
-        excess: ExcessAir(ExcessAir::LEAST),
-        flue: FlueTemperature(FlueTemperature::LEAST),
-        co: CarbonMonoxide(CarbonMonoxide::LEAST),
-        minutes: Minutes(Minutes::LEAST),
+        gas: CubicMetres(0),
+        excess: ExcessAir(0),
+        flue: FlueTemperature(0),
+        co: CarbonMonoxide(0),
+        minutes: Minutes(0),
     }
 }
 
@@ -61,11 +61,11 @@ pub fn setter() -> Setter
     ensures { λ r. ⌜ r ≡ blankSetter ⌝ }
 {
     Setter {
-        mass: Kilos(Kilos::LEAST),
-        entry: Degrees(Degrees::LEAST),
+        mass: Kilos(0),
+        entry: Degrees(0),
         stuff: Stuff {
-            material: Material(Material::LEAST),
-            c: SpecificHeat(SpecificHeat::LEAST),
+            material: Material(0),
+            c: SpecificHeat(0),
         },
     }
 }
@@ -75,13 +75,13 @@ pub fn part() -> Part
     ensures { λ r. ⌜ r ≡ blankPart ⌝ }
 {
     Part {
-        mass: Kilos(Kilos::LEAST),
+        mass: Kilos(0),
         stuff: Stuff {
-            material: Material(Material::LEAST),
-            c: SpecificHeat(SpecificHeat::LEAST),
+            material: Material(0),
+            c: SpecificHeat(0),
         },
-        before: Degrees(Degrees::LEAST),
-        firing: Degrees(Degrees::LEAST),
+        before: Degrees(0),
+        firing: Degrees(0),
     }
 }
 
@@ -90,9 +90,9 @@ pub fn section() -> Section
     ensures { λ r. ⌜ r ≡ blankSection ⌝ }
 {
     Section {
-        number: SectionNumber(SectionNumber::LEAST),
-        place: Place(Place::LEAST),
-        area: Area(Area::LEAST),
+        number: SectionNumber(0),
+        place: Place(0),
+        area: Area(0),
     }
 }
 
@@ -112,30 +112,30 @@ fn head() -> Head
     ensures { λ r. ⌜ r ≡ blankHead ⌝ }
 {
     Head {
-        firing: FiringNumber(FiringNumber::LEAST),
-        product: Product(Product::LEAST),
-        ambient: Ambient(Ambient::LEAST),
+        firing: FiringNumber(0),
+        product: Product(0),
+        ambient: Ambient(0),
         fuel: Fuel {
-            heating: HeatingValue(HeatingValue::LEAST),
-            temperature: FuelTemperature(FuelTemperature::LEAST),
+            heating: HeatingValue(0),
+            temperature: FuelTemperature(0),
         },
-        gas: [Share(Share::LEAST); 13],
-        moisture: Moisture(Moisture::LEAST),
+        gas: [Share(0); 13],
+        moisture: Moisture(0),
         ware: Ware {
-            green: Kilos(Kilos::LEAST),
-            entry: Degrees(Degrees::LEAST),
-            highest: Degrees(Degrees::LEAST),
+            green: Kilos(0),
+            entry: Degrees(0),
+            highest: Degrees(0),
             stuff: Stuff {
-                material: Material(Material::LEAST),
-                c: SpecificHeat(SpecificHeat::LEAST),
+                material: Material(0),
+                c: SpecificHeat(0),
             },
         },
         water: Water {
-            adsorbed: Kilos(Kilos::LEAST),
-            crystal: Kilos(Kilos::LEAST),
-            flue: FlueTemperature(FlueTemperature::LEAST),
+            adsorbed: Kilos(0),
+            crystal: Kilos(0),
+            flue: FlueTemperature(0),
         },
-        clay: Kilos(Kilos::LEAST),
+        clay: Kilos(0),
     }
 }
 
@@ -146,19 +146,19 @@ pub fn sheet() -> Sheet
     Sheet {
         head: head(),
         stages: Stages {
-            count: StageCount(StageCount::LEAST),
+            count: StageCount(0),
             lines: [stage(); 12],
         },
         setters: Setters {
-            count: SetterCount(SetterCount::LEAST),
+            count: SetterCount(0),
             lines: [setter(); 32],
         },
         parts: Parts {
-            count: PartCount(PartCount::LEAST),
+            count: PartCount(0),
             lines: [part(); 32],
         },
         sections: Sections {
-            count: SectionCount(SectionCount::LEAST),
+            count: SectionCount(0),
             lines: [section(); 12],
         },
         readings: [reading(); 144],
