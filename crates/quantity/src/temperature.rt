@@ -148,8 +148,9 @@ impl FlueTemperature {
     }
 }
 
-// The temperature of a section's surface, in tenths of a degree Celsius.
-pub struct SurfaceTemperature(pub i64);
+// The temperature of a section's surface, in tenths of a degree Celsius. A sheet has room for 144 of them, which are copied with it, so it
+// takes the sixteen bits that hold its limits.
+pub struct SurfaceTemperature(pub i16);
 
 pub struct SurfaceTemperatureRead {
     pub value: SurfaceTemperature,
@@ -173,7 +174,7 @@ impl SurfaceTemperature {
             field,
         );
         SurfaceTemperatureRead {
-            value: SurfaceTemperature(read.value),
+            value: SurfaceTemperature(read.value as i16),
             fault: read.fault,
         }
     }
@@ -182,7 +183,7 @@ impl SurfaceTemperature {
     pub fn degrees(self) -> Degrees
         ensures { λ r. ⌜ r .0 ≡ self .0 ⌝ }
     {
-        Degrees(self.0)
+        Degrees(self.0 as i64)
     }
 
     // How far the surface lies above the air near it, Δ of the surface formulas.
@@ -194,8 +195,8 @@ impl SurfaceTemperature {
     }
 }
 
-// The temperature of the air near a section, in tenths of a degree Celsius.
-pub struct NearAir(pub i64);
+// The temperature of the air near a section, in tenths of a degree Celsius, in sixteen bits as the surface's.
+pub struct NearAir(pub i16);
 
 pub struct NearAirRead {
     pub value: NearAir,
@@ -213,7 +214,7 @@ impl NearAir {
     {
         let read = measured(v, NearAir::LEAST, NearAir::GREATEST, fault, field);
         NearAirRead {
-            value: NearAir(read.value),
+            value: NearAir(read.value as i16),
             fault: read.fault,
         }
     }
@@ -222,7 +223,7 @@ impl NearAir {
     pub fn degrees(self) -> Degrees
         ensures { λ r. ⌜ r .0 ≡ self .0 ⌝ }
     {
-        Degrees(self.0)
+        Degrees(self.0 as i64)
     }
 }
 

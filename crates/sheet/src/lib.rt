@@ -102,7 +102,7 @@ pub struct Section {
 // What was measured at a section in a stage, if it was: `read` is 1 then, and else 0. A bool would leave a gap behind it, which 144 copies
 // would move along.
 pub struct Reading {
-    pub read: usize,
+    pub read: u16,
     pub surface: SurfaceTemperature,
     pub air: NearAir,
 }

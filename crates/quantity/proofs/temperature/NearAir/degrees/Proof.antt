@@ -1,0 +1,20 @@
+-- What fits the narrow width fits the wide one. Assumes nothing.
+use native.Mathlib.Omega.{arith}
+use mir.Syntax.{w16}
+use mir.Val.{SFits}
+use mir.Facts.{sfits-widen}
+use Rattle.quantity.proofs.Casts.{cast-fits, cast-is}
+use Rattle.quantity.proofs.temperature.NearAir.degrees.Statement.{statement}
+use Rattle.quantity.proofs.temperature.NearAir.degrees.Tie as tie
+
+narrow : (c : tie.After-struct-told) → SFits w16 (c .before .before .args .self .0)
+narrow c = record { sfits = omega (arith, c .struct-told .given) }
+
+cast-t2 : tie.Need-cast-t2
+cast-t2 c = cast-fits (narrow c) (sfits-widen tt (narrow c))
+
+returns : tie.Need-returns
+returns c = cast-is (narrow c) (sfits-widen tt (narrow c))
+
+pub degrees-spec : {M : Type 1} → statement M
+degrees-spec = tie.close (tie.spec cast-t2 returns)
