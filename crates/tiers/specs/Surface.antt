@@ -4,7 +4,7 @@ use mathlib.Core.Path.{_≡_}
 use mathlib.Core.Bool.{Bool, true, not, _&&_}
 use mathlib.Core.List.{List, [], _∷_, map}
 use mathlib.Core.Option.{Option, none}
-use lib.ListN.{length, replicate}
+use lib.ListN.{length, take, replicate}
 use lib.Dec.{ltb}
 use Rattle.sheet.specs.declared.Reading.{Reading}
 use Rattle.sheet.specs.declared.Refusal.{Refusal}
@@ -19,9 +19,11 @@ use Rattle.lines.specs.Document01.{at, when, sameKey, sectionLine, section-rule
 use Rattle.lines.specs.Rules.{Every, sections, stages}
 use Rattle.lines.specs.Rows.{sectionOf, wallOf}
 use Rattle.walls.specs.declared.Ruling.{Ruling}
+use Rattle.walls.specs.Walls.{numbers}
 use Rattle.walls.proofs.Sections.{Distinct}
 use Rattle.walls.proofs.Readings.{Placed}
 use Rattle.entries.specs.declared.Place.{Place}
+use Rattle.records.specs.declared.blocks.SectionLine.{SectionLine}
 use Rattle.tiers.specs.declared.surface.WallLine.{WallLine}
 use Rattle.entries.specs.Place.{After, ruled}
 use Rattle.amounts.specs.Taking.{wall}
@@ -31,6 +33,11 @@ use Rattle.blank.specs.Blank.{blankSection}
 -- 6: a section number stands among those above it
 abbrev pub twice : List Section → Row → Option Refusal
 twice S row = when (ltb (before (at row 0) S) (length S)) SectionTwice
+
+-- a section line and its rule, by any sections above it that have these numbers
+abbrev pub NewSection : List ℕ → Place → List ℕ → ℕ → SectionLine → Type 0
+NewSection s p above i r =
+    (lines : List Sectionˢ) → above ≡ numbers lines → After s p (readLine sectionLine (twice (map section (take i lines)))) (r .place) (λ row. (section (r .section) ≡ sectionOf row) × (twice (map section (take i lines)) row ≡ none))
 
 -- no line with this key has been read
 abbrev pub lacks : List ℕ → Sheet → Bool

@@ -1,17 +1,13 @@
 // The rows of the sections and of the walls, whose rules look at the rows above them.
 ghost use mathlib.Core.Path.{_≡_};
 ghost use mathlib.Core.List.{map};
-ghost use mathlib.Core.Option.{none};
 ghost use Prim.Native.Nat.{_≤_};
 ghost use lib.Dec.{leb};
-ghost use lib.ListN.{take};
+ghost use lib.ListN.{length, take};
 ghost use lib.Signed.{ltZ};
 ghost use Rattle.sheet.specs.Shown.{section, reading};
-ghost use Rattle.lines.specs.Document01.{sectionLine};
-ghost use Rattle.lines.specs.Reader.{readLine};
-ghost use Rattle.lines.specs.Rows.{sectionOf};
-ghost use Rattle.entries.specs.Place.{Ready, After};
-ghost use Rattle.tiers.specs.Surface.{twice, WallAfter, SectionsAfter, WallsAfter, settled};
+ghost use Rattle.entries.specs.Place.{Ready};
+ghost use Rattle.tiers.specs.Surface.{NewSection, WallAfter, SectionsAfter, WallsAfter, settled};
 ghost use Rattle.amounts.specs.Taking.{wall};
 ghost use Rattle.walls.specs.Walls.{rulingOf};
 use amounts::Wall;
@@ -27,10 +23,10 @@ use sheet::Refusal;
 use sheet::Section;
 
 // One line `section`, whose number must not stand among the first i.
-fn new_section(s: &[u8], p: Place, above: [Section; 12], i: usize) -> SectionLine
-    requires { ⌜ i ≤ 12 ⌝ }
+fn new_section(s: &[u8], p: Place, above: &[usize; 12], i: usize) -> SectionLine
+    requires { ⌜ (i ≤ 12) × (i ≤ length (now above)) ⌝ }
     requires { ⌜ Ready (now s) p ⌝ }
-    ensures { λ r. ⌜ After (now (s .entry)) p (readLine sectionLine (twice (map section (take i above)))) (r .place) (λ row. (section (r .section) ≡ sectionOf row) × (twice (map section (take i above)) row ≡ none)) ⌝ }
+    ensures { λ r. ⌜ NewSection (now (s .entry)) p (now (above .entry)) i r ⌝ }
 {
     let l = section_line(s, p);
     let section = l.section;
@@ -53,13 +49,15 @@ pub fn section_rows(s: &[u8], start: Place, k: usize) -> SectionRows
     ensures { λ r. ⌜ SectionsAfter (now (s .entry)) start k (r .place) (r .lines) ⌝ }
 {
     let none = blank::section();
+    let mut numbers = [none.number.0; 12];
     let mut lines = [none; 12];
     let mut p = start;
     let mut i = 0;
     while i < k {
-        let l = new_section(s, p, lines, i);
+        let l = new_section(s, p, &numbers, i);
         let x = l.section;
         lines[i] = x;
+        numbers[i] = x.number.0;
         p = l.place;
         i += 1;
     }
@@ -130,6 +128,7 @@ pub fn wall_rows(
     ensures { λ r. ⌜ WallsAfter (now (s .entry)) start n (map section (take count sections)) stages (r .place) (r .readings) ⌝ }
 {
     let none = blank::reading();
+    let numbers = walls::numbers_of(sections);
     let mut readings = [none; 144];
     let mut p = start;
     let mut i = 0;
@@ -138,7 +137,7 @@ pub fn wall_rows(
         let w = l.wall;
         let number = w.section;
         let stage = w.stage;
-        let j = walls::section_place(sections, count, number);
+        let j = walls::section_place(&numbers, count, number);
         let cell = j * 12 + (stage.0 - 1);
         let at = walls::looked_up(cell);
         let there = readings[at];

@@ -1,21 +1,24 @@
--- Where a section stands: `before` is the index of the first section with a number, and the count of all where there is none. Assumes nothing.
+-- Where a section stands: `before` is the index of the first section with a number, and the count of all where there is none. `placeOf` says
+-- the same of the numbers. Assumes nothing.
 use Prim.Native.Nat.{ℕ, zero, suc, _+_, _≤_, _<_}
 use native.Mathlib.Omega.{arith}
 use mathlib.Core.Path.{_≡_, refl, sym, ap, _∙_}
 use mathlib.Core.Bool.{Bool, true, false, cond, _||_}
 use mathlib.Core.List.{List, [], _∷_, _++_, map, map-append}
 use lib.Dec.{ltb, eqb, leb·suc-suc}
-use lib.ListN.{length, getD, take, drop, length-append, List·getD-append}
-use lib.IntN.{ℤ}
+use lib.ListN.{length, getD, take, drop, set, length-append, length-map, List·getD-append}
+use lib.IntN.{ℤ, pos, natAbs}
 use lib.Seq.{drop-cons, take-append-le, getD-at, take-at}
-use borrow.Author.Tests.{lt-ltb, eqb-true, eqb-false}
+use borrow.Author.Tests.{lt-ltb, eq-eqb, ne-eqb, eqb-true, eqb-false}
+use Rattle.sheet.specs.declared.Section.{Section as Sectionˢ}
 use Rattle.sheet.specs.Firing.{Section}
-use Rattle.sheet.specs.Shown.{same, before}
+use Rattle.sheet.specs.Shown.{section, same, before}
 use Rattle.lines.specs.Schema.{Row}
 use Rattle.lines.specs.Document01.{any, at}
 use Rattle.lines.specs.Rows.{sectionOf}
 use Rattle.lines.proofs.Rules.{same-self, same-is}
-use Rattle.walls.proofs.Same.{same-swap, any-map, neither}
+use Rattle.walls.specs.Walls.{numbers, placeOf}
+use Rattle.walls.proofs.Same.{same-false, same-swap, any-map, neither}
 
 -- A section of this number stands in the list.
 abbrev pub listed : ℤ → List Section → Bool
@@ -102,12 +105,58 @@ first (x ∷ S) d (suc i) h e =
 pub before-at : (S : List Section) (d : Section) (i : ℕ) → Distinct S → i < length S → before (getD S i d .number) S ≡ i
 before-at S d i D h = first S d i h (D .apart i d h)
 
--- ALONG THE ARRAY: what is left of `before` from an index on.
-module _ (z : ℤ) (S : List Section) (d : Section) (i : ℕ) (h : i < length S) where
-  pub before-here : same z (getD S i d .number) ≡ true → before z (drop i S) ≡ 0
-  unfolding before
-  before-here e = rw (drop-cons S i d h, e)
+-- BY THE NUMBERS ALONE: the code looks a section up among the numbers, which it keeps beside the sections.
+eqb-same : (a n : ℕ) → eqb a n ≡ same (pos n) (pos a)
+eqb-same a n = by (eqb a n) refl
+  where
+    by : (t : Bool) → eqb a n ≡ t → t ≡ same (pos n) (pos a)
+    by true e = rw (eqb-true a n e) (sym (same-self (pos n)))
+    by false e = let other = eqb-false a n e in sym (same-false (pos n) (pos a) (λ q. other (sym (ap natAbs q))))
 
-  pub before-further : same z (getD S i d .number) ≡ false → before z (drop i S) ≡ suc (before z (drop (suc i) S))
-  unfolding before
-  before-further e = rw (drop-cons S i d h, e)
+place-is : (n : ℕ) (l : List Sectionˢ) → placeOf n (numbers l) ≡ before (pos n) (map section l)
+unfolding placeOf before
+place-is n [] = refl
+place-is n (x ∷ l) = rw (eqb-same (x .number .0) n, place-is n l)
+
+take-numbers : (k : ℕ) (l : List Sectionˢ) → take k (numbers l) ≡ numbers (take k l)
+take-numbers zero l = refl
+take-numbers (suc k) [] = refl
+take-numbers (suc k) (x ∷ l) = ap (λ ns. x .number .0 ∷ ns) (take-numbers k l)
+
+set-numbers : (l : List Sectionˢ) (i : ℕ) (x : Sectionˢ) → set (numbers l) i (x .number .0) ≡ numbers (set l i x)
+set-numbers [] i x = refl
+set-numbers (y ∷ l) zero x = refl
+set-numbers (y ∷ l) (suc i) x = ap (λ ns. y .number .0 ∷ ns) (set-numbers l i x)
+
+module _ {ns : List ℕ} (l : List Sectionˢ) (e : ns ≡ numbers l) where
+  pub numbers-length : length ns ≡ length l
+  numbers-length = ap length e ∙ length-map l (λ x. x .number .0)
+
+  -- Among the first sections a number stands where it stands among their numbers.
+  pub place-among : (n k : ℕ) → placeOf n (take k ns) ≡ before (pos n) (map section (take k l))
+  place-among n k = ap (λ m. placeOf n (take k m)) e ∙ ap (placeOf n) (take-numbers k l) ∙ place-is n (take k l)
+
+  -- A section that is stored has its number stored.
+  pub numbers-set : (i : ℕ) (x : Sectionˢ) → set ns i (x .number .0) ≡ numbers (set l i x)
+  numbers-set i x = ap (λ m. set m i (x .number .0)) e ∙ set-numbers l i x
+
+-- Among the first k numbers a place is at most k.
+pub place-most : (n k : ℕ) (l : List ℕ) → placeOf n (take k l) ≤ k
+unfolding placeOf
+place-most n zero l = omega arith
+place-most n (suc k) [] = omega arith
+place-most n (suc k) (x ∷ l) = by (eqb x n) (place-most n k l)
+  where
+    by : (t : Bool) → placeOf n (take k l) ≤ k → cond t 0 (suc (placeOf n (take k l))) ≤ suc k
+    by true h = omega arith
+    by false h = omega arith
+
+-- What is left of `placeOf` from an index on.
+module _ (n : ℕ) (l : List ℕ) (i : ℕ) (h : i < length l) where
+  pub place-here : getD l i 0 ≡ n → placeOf n (drop i l) ≡ 0
+  unfolding placeOf
+  place-here e = rw (drop-cons l i 0 h, eq-eqb _ _ e)
+
+  pub place-further : ¬ (getD l i 0 ≡ n) → placeOf n (drop i l) ≡ suc (placeOf n (drop (suc i) l))
+  unfolding placeOf
+  place-further e = rw (drop-cons l i 0 h, ne-eqb _ _ e)

@@ -1,13 +1,24 @@
--- What a line `wall` breaks first, and whether every section was read in every stage.
+-- Where a section stands by its number, what a line `wall` breaks first, and whether every section was read in every stage.
 use Prim.Native.Nat.{ℕ, zero, suc, _+_, _*_}
 use mathlib.Core.Bool.{Bool, true, false, cond, not, _&&_}
-use mathlib.Core.List.{List}
+use mathlib.Core.List.{List, [], _∷_, map}
+use lib.Dec.{eqb}
 use lib.ListN.{getD}
 use Rattle.sheet.specs.declared.Reading.{Reading}
 use Rattle.sheet.specs.declared.Refusal.{Refusal}
 use Rattle.sheet.specs.declared.Refusal.the-variants.{Accepted, NoSuchWall, ReadTwice, Colder}
+use Rattle.sheet.specs.declared.Section.{Section}
 use Rattle.sheet.specs.Shown.{unread, wasRead}
 use Rattle.walls.specs.declared.Ruling.{Ruling}
+
+-- the sections' numbers, by which they are looked up
+abbrev pub numbers : List Section → List ℕ
+numbers l = map (λ x. x .number .0) l
+
+-- how many numbers stand before this one, or all of them where it is not among them
+unfoldable pub placeOf : ℕ → List ℕ → ℕ
+placeOf n [] = 0
+placeOf n (x ∷ l) = cond (eqb x n) 0 (suc (placeOf n l))
 
 -- 6: no such section or stage; 7: read already; 9: colder than the air near it
 unfoldable pub rulingOf : Bool → Bool → Bool → Bool → Ruling

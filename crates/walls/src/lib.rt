@@ -1,14 +1,12 @@
 // The readings at the walls: which section a line `wall` names, which rule it breaks, and whether every section was read in every stage.
 ghost use mathlib.Core.Path.{_≡_};
-ghost use mathlib.Core.List.{map};
 ghost use Prim.Native.Nat.{_≤_, _<_, min};
 ghost use mathlib.Core.Bool.{_&&_};
 ghost use lib.Dec.{ltb};
-ghost use lib.ListN.{take};
-ghost use lib.IntN.{pos};
+ghost use lib.ListN.{length, take};
 ghost use lib.Signed.{ltZ};
-ghost use Rattle.sheet.specs.Shown.{section, before, wasRead};
-ghost use Rattle.walls.specs.Walls.{rulingOf, rowRead, allRead};
+ghost use Rattle.sheet.specs.Shown.{wasRead};
+ghost use Rattle.walls.specs.Walls.{numbers, placeOf, rulingOf, rowRead, allRead};
 use quantity::kiln::SectionNumber;
 use quantity::temperature::NearAir;
 use quantity::temperature::SurfaceTemperature;
@@ -22,15 +20,28 @@ pub struct Ruling {
     pub why: Refusal,
 }
 
-// How many of the first `count` sections stand before the one with this number, or `count` where there is none.
-pub fn section_place(sections: [Section; 12], count: usize, number: SectionNumber) -> usize
-    requires { ⌜ count ≤ 12 ⌝ }
-    ensures { λ r. ⌜ r ≡ before (pos (number .0)) (map section (take count sections)) ⌝ }
+// The numbers of the sections, in their order, so that a section can be looked up without copying all of them.
+pub fn numbers_of(sections: [Section; 12]) -> [usize; 12]
+    ensures { λ r. ⌜ r ≡ numbers sections ⌝ }
+{
+    let mut r = [0; 12];
+    let mut i = 0;
+    while i < 12 {
+        let x = sections[i];
+        r[i] = x.number.0;
+        i += 1;
+    }
+    r
+}
+
+// How many of the first `count` numbers stand before this one, or `count` where it is not among them.
+pub fn section_place(numbers: &[usize; 12], count: usize, number: SectionNumber) -> usize
+    requires { ⌜ (count ≤ 12) × (count ≤ length (now numbers)) ⌝ }
+    ensures { λ r. ⌜ r ≡ placeOf (number .0) (take count (now (numbers .entry))) ⌝ }
 {
     let mut i = 0;
     while i < count {
-        let x = sections[i];
-        if x.number.0 == number.0 {
+        if numbers[i] == number.0 {
             return i;
         }
         i += 1;

@@ -13,6 +13,7 @@ use Rattle.sheet.specs.Firing.{Section}
 use Rattle.sheet.specs.Shown.{section, before}
 use Rattle.lines.specs.Document01.{when, sectionLine}
 use Rattle.lines.specs.Rows.{sectionOf}
+use Rattle.walls.proofs.Sections.{numbers-length, place-among}
 use Rattle.tiers.specs.Surface.{twice}
 use Rattle.entries.proofs.Lines.{ruled-after}
 use Rattle.tiers.proofs.surface.new_section.Statement.{statement}
@@ -22,15 +23,16 @@ shown-length : (i : ℕ) (l : List Sectionˢ) → i ≤ length l → length (map
 shown-length i l h = length-map (take i l) section ∙ length-take i l ∙ omega arith
 
 returns : tie.Need-returns
-returns c =
+returns c lines e =
     let k = c .before .before .section-place in
     let l = c .before .before .before .before .before .section-line in
     let a = c .before .before .before .before .before .before .before in
-    let S = map section (take (a .args .i) (a .args .above)) in
-    let n = shown-length (a .args .i) (a .args .above) (omega (arith, a .pre .0)) in
+    let S = map section (take (a .args .i) lines) in
+    let n = shown-length (a .args .i) lines (omega (arith, a .pre .0, numbers-length lines e)) in
+    let stands = k .ensures ∙ place-among lines e (l .result .section .number .0) (a .args .i) in
     rw (c .ruled .ensures)
     (ruled-after (a .args .s .now) (a .args .p) (l .result .place) sectionLine (λ row. section (l .result .section) ≡ sectionOf row) (twice S) (ltb (k .result) (a .args .i)) SectionTwice
-    (λ row h. ap₂ (λ (x y : ℕ). when (ltb x y) SectionTwice) (ap (λ (z : ℤ). before z S) (sym (ap (λ (x : Section). x .number) h)) ∙ sym (k .ensures)) n) (l .ensures))
+    (λ row h. ap₂ (λ (x y : ℕ). when (ltb x y) SectionTwice) (ap (λ (z : ℤ). before z S) (sym (ap (λ (x : Section). x .number) h)) ∙ sym stands) n) (l .ensures))
 
 pub new-section-spec : {M : Type 1} → statement M
 new-section-spec = tie.close (tie.spec (λ c κs. search needs) (λ c κs. search needs) (λ c κs. search needs) returns)

@@ -1,4 +1,4 @@
--- The sections up to i have been read, and no number stands twice among them. Assumes nothing.
+-- The sections up to i have been read, their numbers stand beside them, and no number stands twice among them. Assumes nothing.
 use Prim.Native.Nat.{ℕ, suc, _+_, _-_, _≤_, _<_}
 use mathlib.Core.Path.{_≡_, refl, sym, ap, _∙_, subst}
 use mathlib.Core.Bool.{Bool, true, false}
@@ -21,7 +21,8 @@ use Rattle.lines.specs.Reader.{Sheet, filled, readLine, readRows}
 use Rattle.lines.specs.Rows.{sectionOf}
 use Rattle.lines.proofs.Cases.{clash}
 use Rattle.walls.proofs.Document.{section-rule-is}
-use Rattle.walls.proofs.Sections.{distinct-none, distinct-row, before-listed}
+use Rattle.walls.specs.Walls.{numbers}
+use Rattle.walls.proofs.Sections.{distinct-none, distinct-row, before-listed, numbers-length, numbers-set}
 use Rattle.entries.specs.declared.Place.{Place}
 use Rattle.entries.specs.Place.{Ready, After}
 use Rattle.blank.specs.Blank.{blankSection}
@@ -67,40 +68,44 @@ next s p q q′ i lines x seen h e a b =
     (b .passes) (b .fair))
 
 abbrev Inv-loop : tie.InvT-loop
-Inv-loop s k lines₀ p₀ i₀ lines p i =
-    (i ≤ k) × (k ≤ 12) × (length lines ≡ 12) × Ready s p × ((seen : Sheet) → lacks (bytes "section") seen ≡ true → After s p₀ (readRows i sectionLine section-rule seen []) p (SectionsShown i lines))
+Inv-loop s k ns₀ lines₀ p₀ i₀ ns lines p i =
+    (i ≤ k) × (k ≤ 12) × (length lines ≡ 12) × Ready s p × (ns ≡ numbers lines) × ((seen : Sheet) → lacks (bytes "section") seen ≡ true → After s p₀ (readRows i sectionLine section-rule seen []) p (SectionsShown i lines))
 
 abbrev μ-loop : tie.MeasureT-loop
-μ-loop s k lines₀ p₀ i₀ lines p i = k - i
+μ-loop s k ns₀ lines₀ p₀ i₀ ns lines p i = k - i
 
 loop-holds : tie.Need-loop-holds Inv-loop μ-loop
 loop-holds c =
     let a = c .before .before in
     let none-shown : SectionsShown 0 (replicate 12 blankSection) [] = record { filled = none-filled section sectionOf blankSection 12; distinct = distinct-none } in
     rw (c .section .ensures)
-    (omega arith, a .pre .0, omega arith, a .pre .1, λ seen e. block-start (a .args .s .now) sectionLine section-rule seen (a .args .start) (SectionsShown 0 _) none-shown (a .pre .1 .fair))
+    (omega arith, a .pre .0, omega arith, a .pre .1, refl, λ seen e. block-start (a .args .s .now) sectionLine section-rule seen (a .args .start) (SectionsShown 0 _) none-shown (a .pre .1 .fair))
 
 new-section-requires : tie.Need-new-section-requires Inv-loop μ-loop
-new-section-requires c κs = (omega arith, c .before .loop .inv .3)
+new-section-requires c κs =
+    let at = c .before .before .loop in
+    ((omega arith, omega (arith, numbers-length (at .lines) (at .inv .4))), at .inv .3)
 
 loop-again : tie.Need-loop-again Inv-loop μ-loop
 loop-again c =
     let l = c .before .before .new-section in
-    let at = c .before .before .before .before .loop in
-    let a = c .before .before .before .before .before .before .before .args in (
+    let at = c .before .before .before .before .before .loop in
+    let a = c .before .before .before .before .before .before .before .before .args in
+    let line = l .ensures (at .lines) (at .inv .4) in (
       omega arith,
       at .inv .1,
       simp length-set (at .inv .2),
-      ready-after (at .inv .3) (l .ensures),
-      λ seen e. next (a .s .now) (a .start) (at .p) (l .result .place) (at .i) (at .lines) (l .result .section) seen (omega arith) e (at .inv .4 seen e) (l .ensures),
+      ready-after (at .inv .3) line,
+      numbers-set (at .lines) (at .inv .4) (at .i) (l .result .section),
+      λ seen e. next (a .s .now) (a .start) (at .p) (l .result .place) (at .i) (at .lines) (l .result .section) seen (omega arith) e (at .inv .5 seen e) line,
     )
 
 returns : tie.Need-returns Inv-loop μ-loop
 returns c =
     let at = c .before .loop in
     let e : at .i ≡ c .before .before .before .before .args .k = omega arith in
-    rw (← e) (at .inv .4)
+    rw (← e) (at .inv .5)
 
 pub section-rows-spec : {M : Type 1} → statement M
 section-rows-spec =
-    tie.close (tie.spec Inv-loop μ-loop (λ c κs. search needs) loop-holds new-section-requires (λ c. search needs) (λ c. search needs) (λ c. search needs) (λ c. omega arith) loop-again returns)
+    tie.close (tie.spec Inv-loop μ-loop (λ c κs. search needs) loop-holds new-section-requires (λ c. search needs) (λ c. search needs) (λ c. search needs) (λ c. search needs) (λ c. search needs) (λ c. omega arith) loop-again returns)
