@@ -54,13 +54,14 @@ fn answered(sheet: &[u8], room: &mut [u8]) -> Answer
     ensures { λ _. ⌜ now (room .exit) ≡ bufferOf (now (sheet .entry)) (now (room .entry)) ⌝ }
     ensures { λ _. ⌜ Short (now (sheet .entry)) ⌝ }
 {
-    let r = reader::read(sheet);
-    if r.accepted {
-        let sheet = r.sheet;
-        return reported(report::figures(sheet), room);
+    let l = reader::judged(sheet);
+    let p = l.place;
+    if p.kind == 0 {
+        let firing = l.sheet;
+        return reported(report::figures(firing), room);
     }
-    let why = r.refusal;
-    refused(why, r.line)
+    let why = entries::coded::refusal_of(p.kind, p.field);
+    refused(why, p.line)
 }
 
 // The balance of a sheet: the report at the front of the room and its length, or a refusal, and then no byte of the room changes.

@@ -4,8 +4,9 @@ use mathlib.Core.Path.{_≡_, refl, sym, ap, ap₂, _∙_, subst}
 use mathlib.Core.Bool.{Bool, true, false, cond, not}
 use mathlib.Core.List.{List, [], _∷_, map}
 use native.Mathlib.Omega.{arith}
+use lib.Dec.{ltb, lit≤}
 use lib.ListN.{length, take, length-drop}
-use borrow.Author.Tests.{lt-ltb, le-ltb}
+use borrow.Author.Tests.{lt-ltb, le-ltb, ltb-true, ltb-false, eqb-true}
 use Rattle.sheet.specs.declared.Reading.{Reading}
 use Rattle.sheet.specs.declared.Refusal.{Refusal}
 use Rattle.sheet.specs.declared.Refusal.the-variants.{Accepted, TooLong, Surplus, Missing, GasTotal}
@@ -24,10 +25,11 @@ use Rattle.lines.proofs.Limits.{limits}
 use Rattle.walls.specs.Walls.{allRead}
 use Rattle.walls.proofs.Document.{missing-is}
 use Rattle.entries.specs.declared.Place.{Place}
+use Rattle.reader.specs.declared.whole.Lines.{Lines}
 use Rattle.reader.specs.declared.whole.Outcome.{Outcome}
-use Rattle.entries.specs.Place.{good, reason, Meets}
-use Rattle.reader.specs.Whole.{Held, Sized, gasOf, judgedAs, rejectedAs, Answers}
-use Rattle.entries.proofs.Places.{not-both, refused-bad, refused-why}
+use Rattle.entries.specs.Place.{good, reason, refusedAt, Fair, Ready, Meets, After}
+use Rattle.reader.specs.Whole.{top, openingAs, Held, Sized, gasOf, wholeAs, verdictAs, Judged, rejectedAs, Answers}
+use Rattle.entries.proofs.Places.{not-both, is-good, refused-bad, refused-why}
 
 map-twice : {A B C : Type 0} (g : B → C) (f : A → B) (l : List A) → map g (map f l) ≡ map (λ x. g (f x)) l
 map-twice g f [] = refl
@@ -47,53 +49,111 @@ read-same {x} {sheet} h z =
     missing-is sheet few (h .placed) short (h .distinct)
     ∙ ap (λ (c : List Reading). allRead c (length (sections sheet)) (length (stages sheet))) (sym (h .shows .readings)) ∙ ap₂ (allRead (x .readings)) (h .sectionsAre) (h .stagesAre)
 
-module _ {x : Sheetˢ} {sheet : Sheet} (h : Held x sheet) (z : Sized x) where
+module _ {x : Sheetˢ} {sheet : Sheet} (h : Held x sheet) (z : Sized x) (q : Place) (sound : q .kind ≡ 0) where
   abbrev said-of : Bool → Bool → Answer
   said-of gas read = on (when (not gas) GasTotal else when (not read) Missing) (Good sheet) (λ r. Refused r 0)
 
-  rules : (gas read : Bool) → Answers (said-of gas read) (cond gas (cond read (record { accepted = true; refusal = Accepted; line = 0; sheet = x }) (rejectedAs Missing 0)) (rejectedAs GasTotal 0))
-  rules true true = (refl, refl, refl, h .shows, h .trimmed)
+  rules : (gas read : Bool) → Judged (said-of gas read) (record { place = cond gas (cond read q (refusedAt Missing 0)) (refusedAt GasTotal 0); sheet = x })
+  rules true true = (sound, h .shows, h .trimmed)
   rules true false = refl
   rules false read = refl
 
-  whole-answer : Answers (on (document01 .whole sheet) (Good sheet) (λ r. Refused r 0)) (judgedAs x)
-  whole-answer =
+  whole-judged : Judged (on (document01 .whole sheet) (Good sheet) (λ r. Refused r 0)) (record { place = wholeAs q x; sheet = x })
+  whole-judged =
       let gas = ap (within gasTotal) (gas-same h) in
       let read = read-same h z in
-      subst (λ (a : Answer). Answers a (judgedAs x)) (sym (ap₂ said-of gas read)) (rules (within gasTotal (gasOf x)) (allRead (x .readings) (x .sections .count .0) (x .stages .count .0)))
+      subst (λ (a : Answer). Judged a (record { place = wholeAs q x; sheet = x })) (sym (ap₂ said-of gas read)) (rules (within gasTotal (gasOf x)) (allRead (x .readings) (x .sections .count .0) (x .stages .count .0)))
 
-module _ (s : List ℕ) (q : Place) (x : Sheetˢ) where
-  answer-refused : (r : Read Sheet) → Meets s r q (Held x) → good q ≡ false → Answers (judgedWhole document01 r) (rejectedAs (reason q) (q .line))
-  answer-refused (stopped y n) m e = ap (λ (p : Place). rejectedAs (reason p) (p .line)) m ∙ ap (λ (x : Refusal). rejectedAs x n) (refused-why y n)
-  answer-refused (got sheet n rest) m e = not-both (good q) (m .0 .sound) e
+module _ (s : List ℕ) (q : Place) (x : Sheetˢ) (z : Sized x) where
+  -- the rules of the whole sheet, after the lines
+  lines-judged : (r : Read Sheet) → Meets s r q (Held x) → Judged (judgedWhole document01 r) (record { place = verdictAs (length s) q x; sheet = x })
+  lines-judged (stopped y n) m = rw (ap good m ∙ refused-bad y n) m
+  lines-judged (got sheet n []) m =
+      let e : length s ≤ q .at = omega (arith, length-drop (q .at) s, ap length (m .0 .left)) in
+      rw (m .0 .sound, le-ltb (q .at) (length s) e) (whole-judged (m .1) z q (eqb-true (q .kind) 0 (m .0 .sound)))
+  lines-judged (got sheet n (b ∷ bs)) m =
+      let e : q .at < length s = omega (arith, length-drop (q .at) s, ap length (m .0 .left)) in
+      rw (m .0 .sound, lt-ltb (q .at) (length s) e) (ap (refusedAt Surplus) (m .0 .line))
 
-  answer-surplus : (r : Read Sheet) → Meets s r q (Held x) → good q ≡ true → q .at < length s → Answers (judgedWhole document01 r) (rejectedAs Surplus (q .line))
-  answer-surplus (stopped y n) m e h = not-both (good q) e (ap good m ∙ refused-bad y n)
-  answer-surplus (got sheet n []) m e h = absurd (omega (arith, length-drop (q .at) s, ap length (m .0 .left)))
-  answer-surplus (got sheet n (b ∷ bs)) m e h = ap (rejectedAs Surplus) (m .0 .line)
+-- k of n bytes are looked at
+pub record Looked (n k : ℕ) : Type 0 where
+  pub inside : k ≤ n
+  pub few : k ≤ 16384
+  pub whole : n ≤ 16384 → k ≡ n
 
-  answer-whole : (r : Read Sheet) → Meets s r q (Held x) → good q ≡ true → length s ≤ q .at → Sized x → Answers (judgedWhole document01 r) (judgedAs x)
-  answer-whole (stopped y n) m e h z = not-both (good q) e (ap good m ∙ refused-bad y n)
-  answer-whole (got sheet n []) m e h z = whole-answer (m .1) z
-  answer-whole (got sheet n (b ∷ bs)) m e h z = absurd (omega (arith, length-drop (q .at) s, ap length (m .0 .left)))
+-- WHERE THE READING BEGINS, and that no more than a sheet may have is looked at
+module _ (n : ℕ) (p : Place) (e : p ≡ openingAs n) where
+  opened : {t : Bool} → ltb 16384 n ≡ t → p ≡ cond t (refusedAt TooLong 0) top
+  opened f = subst (λ (t : Bool). p ≡ cond t (refusedAt TooLong 0) top) f e
 
--- THE ANSWER
-pub too-long : (s : List ℕ) → 16384 < length s → Answers (readOf document01 s) (rejectedAs TooLong 0)
-unfolding readOf
-too-long s h = rw (lt-ltb 16384 (length s) h)
+  opened-short : p .kind ≡ 0 → n ≤ 16384
+  opened-short h = here (ltb 16384 n) refl
+    where
+      here : (b : Bool) → ltb 16384 n ≡ b → n ≤ 16384
+      here true f = let z : _≡_ {A = ℕ} 2 0 = sym (ap (λ (q : Place). q .kind) (opened f)) ∙ h in absurd (omega arith)
+      here false f = ltb-false 16384 n f
 
-module _ (s : List ℕ) (short : length s ≤ 16384) (q : Place) (x : Sheetˢ) (m : Meets s (readLines document01 1 s) q (Held x)) where
-  pub refused-line : good q ≡ false → Answers (readOf document01 s) (rejectedAs (reason q) (q .line))
+  opened-long : ¬ (p .kind ≡ 0) → 16384 < n
+  opened-long h = here (ltb 16384 n) refl
+    where
+      here : (b : Bool) → ltb 16384 n ≡ b → 16384 < n
+      here true f = ltb-true 16384 n f
+      here false f = absurd (h (ap (λ (q : Place). q .kind) (opened f)))
+
+  pub opened-ready : (t : List ℕ) → length t ≤ 16384 → Ready t p
+  opened-ready t short = record { short = short; fair = λ g. here (ltb 16384 n) refl g }
+    where
+      here : (b : Bool) → ltb 16384 n ≡ b → good p ≡ true → Fair t p
+      here true f g = not-both (good p) g (ap good (opened f))
+      here false f g = subst (Fair t) (sym (opened f)) (record { field = refl; line = lit≤ tt; within = omega arith })
+
+  pub looked-all : {k : ℕ} → p .kind ≡ 0 → k ≡ n → Looked n k
+  looked-all h f = let short = opened-short h in record { inside = omega arith; few = omega arith; whole = λ g. f }
+
+  pub looked-none : {k : ℕ} → ¬ (p .kind ≡ 0) → k ≡ 0 → Looked n k
+  looked-none h f = let long = opened-long h in record { inside = omega arith; few = omega arith; whole = λ g. absurd (omega arith) }
+
+-- THE JUDGEMENT: t is what was looked at, all that a sheet of good length has
+module _ (s t : List ℕ) (all-of-it : length s ≤ 16384 → t ≡ s) (q : Place) (x : Sheetˢ) (after : After t (openingAs (length s)) (readLines document01) q (Held x)) (z : Sized x) where
+  abbrev found : Lines
+  found = record { place = verdictAs (length s) q x; sheet = x }
+
+  too-long : ltb 16384 (length s) ≡ true → Judged (readOf document01 s) found
   unfolding readOf
-  refused-line e = rw (le-ltb 16384 (length s) short) (answer-refused s q x (readLines document01 1 s) m e)
+  too-long e =
+      let opened : openingAs (length s) ≡ refusedAt TooLong 0 = rw e in
+      let ended : q ≡ refusedAt TooLong 0 = after .passes (ap good opened) ∙ opened in
+      rw (e, ended) refl
 
-  pub surplus : good q ≡ true → q .at < length s → Answers (readOf document01 s) (rejectedAs Surplus (q .line))
+  of-good-length : ltb 16384 (length s) ≡ false → Judged (readOf document01 s) found
   unfolding readOf
-  surplus e h = rw (le-ltb 16384 (length s) short) (answer-surplus s q x (readLines document01 1 s) m e h)
+  of-good-length e =
+      let opened : openingAs (length s) ≡ top = rw e in
+      let same = all-of-it (ltb-false 16384 (length s) e) in
+      let m : Meets s (readLines document01 1 s) q (Held x) = subst (λ (u : List ℕ). Meets u (readLines document01 1 u) q (Held x)) same (subst (λ (p : Place). After t p (readLines document01) q (Held x)) opened after .reads refl) in
+      rw e (lines-judged s q x z (readLines document01 1 s) m)
 
-  pub whole-sheet : good q ≡ true → length s ≤ q .at → Sized x → Answers (readOf document01 s) (judgedAs x)
-  unfolding readOf
-  whole-sheet e h z = rw (le-ltb 16384 (length s) short) (answer-whole s q x (readLines document01 1 s) m e h z)
+  pub judgement : Judged (readOf document01 s) found
+  judgement = here (ltb 16384 (length s)) refl
+    where
+      here : (b : Bool) → ltb 16384 (length s) ≡ b → Judged (readOf document01 s) found
+      here true e = too-long e
+      here false e = of-good-length e
+
+-- THE ANSWER from it
+pub answer-refused : (s : List ℕ) (r : Lines) → Judged (readOf document01 s) r → good (r .place) ≡ false → Answers (readOf document01 s) (rejectedAs (reason (r .place)) (r .place .line))
+answer-refused s r h e = here (readOf document01 s) h
+  where
+    here : (a : Answer) → Judged a r → Answers a (rejectedAs (reason (r .place)) (r .place .line))
+    here (Refused x n) k = ap (λ (p : Place). rejectedAs (reason p) (p .line)) k ∙ ap (λ (y : Refusal). rejectedAs y n) (refused-why x n)
+    here (Good sheet) k = not-both (good (r .place)) (is-good (r .place) (k .0)) e
+
+pub answer-good : (s : List ℕ) (r : Lines) → Judged (readOf document01 s) r → good (r .place) ≡ true → Answers (readOf document01 s) (record { accepted = true; refusal = Accepted; line = 0; sheet = r .sheet })
+answer-good s r h e = here (readOf document01 s) h
+  where
+    here : (a : Answer) → Judged a r → Answers a (record { accepted = true; refusal = Accepted; line = 0; sheet = r .sheet })
+    here (Refused x n) k = not-both (good (r .place)) e (ap good k ∙ refused-bad x n)
+    here (Good sheet) k = (refl, refl, refl, k .1, k .2)
 
 -- AN ACCEPTED SHEET: its struct shows the firing of a sheet that was read, which keeps every rule
 pub record Firm (s : List ℕ) (x : Sheetˢ) : Type 0 where
@@ -108,13 +168,21 @@ firm s r h e = here (readOf document01 s) refl h
     here (Refused x n) g k = not-both (r .accepted) e (ap (λ (o : Outcome). o .accepted) k)
     here (Good sheet) g k = record { sheet = sheet; good = g; shows = k .3 }
 
+-- the same by the judgement
+pub firm-judged : (s : List ℕ) (r : Lines) → Judged (readOf document01 s) r → good (r .place) ≡ true → Firm s (r .sheet)
+firm-judged s r h e = here (readOf document01 s) refl h
+  where
+    here : (a : Answer) → readOf document01 s ≡ a → Judged a r → Firm s (r .sheet)
+    here (Refused x n) g k = not-both (good (r .place)) e (ap good k ∙ refused-bad x n)
+    here (Good sheet) g k = record { sheet = sheet; good = g; shows = k .1 }
+
 pub firm-limits : {s : List ℕ} {x : Sheetˢ} (a : Firm s x) → Limits (firingOf (a .sheet))
 firm-limits {s} a = limits (firingOf (a .sheet)) (firing-kept s (a .sheet) (a .good) .keeps)
 
--- A REFUSED SHEET: document 01's refusal and line are those that the code answers
-pub refused-as : (s : List ℕ) (r : Outcome) → Answers (readOf document01 s) r → r .accepted ≡ false → readOf document01 s ≡ Refused (r .refusal) (r .line)
-refused-as s r h e = here (readOf document01 s) h
+-- A REFUSED SHEET: document 01's refusal and line are those that the code finds
+pub refused-judged : (s : List ℕ) (r : Lines) → Judged (readOf document01 s) r → good (r .place) ≡ false → readOf document01 s ≡ Refused (reason (r .place)) (r .place .line)
+refused-judged s r h e = here (readOf document01 s) h
   where
-    here : (a : Answer) → Answers a r → a ≡ Refused (r .refusal) (r .line)
-    here (Refused x n) k = rw k refl
-    here (Good sheet) k = not-both (r .accepted) (k .0) e
+    here : (a : Answer) → Judged a r → a ≡ Refused (reason (r .place)) (r .place .line)
+    here (Refused x n) k = sym (ap (λ (p : Place). Refused (reason p) (p .line)) k ∙ ap (λ (y : Refusal). Refused y n) (refused-why x n))
+    here (Good sheet) k = not-both (good (r .place)) (is-good (r .place) (k .0)) e

@@ -33,7 +33,7 @@ use Rattle.amounts.specs.Taking.{shares}
 use Rattle.groups.specs.Tops.{upperParts, lowerParts, UpperShown, LowerShown}
 use Rattle.tiers.specs.Surface.{SectionsShown, WallsShown}
 use Rattle.groups.specs.Blocks.{stagesOf01, settersOf01, partsOf01, sectionsOf01, wallsOf01, StagesRead, SettersRead, PartsRead, SectionsRead, WallsRead}
-use Rattle.reader.specs.Whole.{headOf, top, Held}
+use Rattle.reader.specs.Whole.{headOf, Held}
 use Rattle.entries.proofs.Places.{after-bind}
 use Rattle.tiers.proofs.Fills.{filled-most}
 use Rattle.tiers.proofs.Sequence.{pass-on, then-line, then-part, then-parts, parts-done, one-after}
@@ -132,8 +132,8 @@ module _ (u : Upper) (l : Lower) (a : StagesPart) (b : SettersPart) (c : PartsPa
   }
 
 -- ---- line after line
-module _ (s : List ℕ) (e : EditionLine) (u : Upper) (l : Lower) (a : StagesPart) (b : SettersPart) (c : PartsPart) (d : SectionsPart) (w : WallRows) (z : ClosingLine) (E Z : Row → Type 0)
-    (he : After s top (readLine sheetLine (λ row. none)) (e .place) E)
+module _ (s : List ℕ) (start : Place) (e : EditionLine) (u : Upper) (l : Lower) (a : StagesPart) (b : SettersPart) (c : PartsPart) (d : SectionsPart) (w : WallRows) (z : ClosingLine) (E Z : Row → Type 0)
+    (he : After s start (readLine sheetLine (λ row. none)) (e .place) E)
     (hu : (seen : Sheet) → After s (e .place) (readParts upperParts seen) (u .place) (UpperShown u seen))
     (hl : (seen : Sheet) → After s (u .place) (readParts lowerParts seen) (l .place) (LowerShown l seen))
     (ha : StagesRead s (l .place) a) (hb : SettersRead s (a .place) b) (hc : PartsRead s (b .place) c) (hd : SectionsRead s (c .place) d)
@@ -185,12 +185,12 @@ module _ (s : List ℕ) (e : EditionLine) (u : Upper) (l : Lower) (a : StagesPar
       then-line s endLine free [] t5 Q (w .place) (z .place) (z .place) Z hz (λ end k. parts-done s (z .place) (t5 ++ filled endLine (end ∷ [])) Q (held u l a b c d w edition end ku kl st se pa sc wa fa fb fc fd fw) f) (λ h. refl) f)) g7 f)) g6 f)) g5 f)) g4 f)) g3 f
 
   -- ALL LINES
-  pub lines-after : After s top (readLines document01) (z .place) Q
+  pub lines-after : After s start (readLines document01) (z .place) Q
   unfolding below01
   lines-after =
       let f = hz .fair in
       let rest : List Part = stagesOf01 ∷ settersOf01 ∷ partsOf01 ∷ sectionsOf01 ∷ wallsOf01 ∷ one endLine free ∷ [] in
-      after-bind s top (e .place) (z .place) (readPart (one sheetLine free) []) (λ seen. readParts below01 seen) _ Q (one-after s sheetLine free [] top (e .place) E he)
+      after-bind s start (e .place) (z .place) (readPart (one sheetLine free) []) (λ seen. readParts below01 seen) _ Q (one-after s sheetLine free [] start (e .place) E he)
       (λ t k.
       (let r = k .2 .0 in
       let t0 = filled sheetLine (r ∷ []) in

@@ -3,12 +3,13 @@ use Prim.Native.Nat.{ℕ, _-_, _≤_}
 use mathlib.Core.Path.{_≡_}
 use mathlib.Core.Bool.{true, false, cond}
 use mathlib.Core.List.{List, map}
+use lib.Dec.{ltb}
 use lib.ListN.{length, take, drop, replicate}
 use lib.IntN.{ℤ}
 use Rattle.sheet.specs.declared.Head.{Head}
 use Rattle.sheet.specs.declared.Sheet.{Sheet as Sheetˢ}
 use Rattle.sheet.specs.declared.Refusal.{Refusal}
-use Rattle.sheet.specs.declared.Refusal.the-variants.{Accepted, Missing, GasTotal}
+use Rattle.sheet.specs.declared.Refusal.the-variants.{Accepted, TooLong, Surplus, Missing, GasTotal}
 use Rattle.sheet.specs.Shown.{Shows}
 use Rattle.lines.specs.Schema.{within}
 use Rattle.lines.specs.Quantities.{gasTotal}
@@ -24,7 +25,7 @@ use Rattle.groups.specs.declared.tops.Upper.{Upper}
 use Rattle.groups.specs.declared.tops.Lower.{Lower}
 use Rattle.reader.specs.declared.whole.Lines.{Lines}
 use Rattle.reader.specs.declared.whole.Outcome.{Outcome}
-use Rattle.entries.specs.Place.{After}
+use Rattle.entries.specs.Place.{good, refusedAt, After}
 use Rattle.tiers.specs.Stages.{SmallGas}
 use Rattle.blank.specs.Blank.{blankStage, blankSetter, blankPart, blankSection, blankSheet}
 
@@ -34,6 +35,10 @@ headOf u l = record { firing = u .firing; product = u .product; ambient = u .amb
 -- before the first line
 abbrev pub top : Place
 top = record { kind = 0; field = 0; line = 1; at = 0 }
+
+-- where the reading of n bytes begins
+abbrev pub openingAs : ℕ → Place
+openingAs n = cond (ltb 16384 n) (refusedAt TooLong 0) top
 
 -- the counts are within their arrays, beyond which nothing could be shown, and beyond their counts the blocks are blank
 pub record Trimmed (x : Sheetˢ) : Type 0 where
@@ -61,22 +66,29 @@ pub record Sized (x : Sheetˢ) : Type 0 where
   pub sections : x .sections .count .0 ≤ 12
   pub small : Every SmallGas (x .stages .lines)
 
-pub record LinesRead (s : List ℕ) (r : Lines) : Type 0 where
-  pub after : After s top (readLines document01) (r .place) (Held (r .sheet))
+pub record LinesRead (s : List ℕ) (start : Place) (r : Lines) : Type 0 where
+  pub after : After s start (readLines document01) (r .place) (Held (r .sheet))
   pub sized : Sized (r .sheet)
-
-abbrev pub rejectedAs : Refusal → ℕ → Outcome
-rejectedAs x n = record { accepted = false; refusal = x; line = n; sheet = blankSheet }
 
 -- the rules of the whole sheet, by the struct
 abbrev pub gasOf : Sheetˢ → ℤ
 gasOf x = sumOf (map (λ y. y .gas .0) (take (x .stages .count .0) (x .stages .lines)))
 
-abbrev pub judgedAs : Sheetˢ → Outcome
-judgedAs x =
-    cond (within gasTotal (gasOf x))
-    (cond (allRead (x .readings) (x .sections .count .0) (x .stages .count .0)) (record { accepted = true; refusal = Accepted; line = 0; sheet = x }) (rejectedAs Missing 0))
-    (rejectedAs GasTotal 0)
+abbrev pub wholeAs : Place → Sheetˢ → Place
+wholeAs p x = cond (within gasTotal (gasOf x)) (cond (allRead (x .readings) (x .sections .count .0) (x .stages .count .0)) p (refusedAt Missing 0)) (refusedAt GasTotal 0)
+
+-- the place after them, of n bytes that were read up to p; a refused place passes through
+abbrev pub verdictAs : ℕ → Place → Sheetˢ → Place
+verdictAs n p x = cond (good p) (cond (ltb (p .at) n) (refusedAt Surplus (p .line)) (wholeAs p x)) p
+
+-- THE CODE'S JUDGEMENT: document 01's refusal with its line, as a place, or the struct of the firing that the sheet gives. Beside a
+-- refusal the struct stays open.
+abbrev pub Judged : Answer → Lines → Type 0
+Judged (Refused x n) r = r .place ≡ refusedAt x n
+Judged (Good sheet) r = (r .place .kind ≡ 0) × Shows (r .sheet) (firingOf sheet) × Trimmed (r .sheet)
+
+abbrev pub rejectedAs : Refusal → ℕ → Outcome
+rejectedAs x n = record { accepted = false; refusal = x; line = n; sheet = blankSheet }
 
 -- THE CODE'S ANSWER: document 01's refusal with its line, or the struct of the firing that the sheet gives, and nothing else
 abbrev pub Answers : Answer → Outcome → Type 0

@@ -2,33 +2,47 @@
 mod whole;
 
 use crate::whole::all_lines;
-use crate::whole::judged;
+use crate::whole::opening;
 use crate::whole::rejected;
+use crate::whole::verdict;
 use entries::coded::refusal_of;
 use sheet::Refusal;
+pub use whole::Lines;
 pub use whole::Outcome;
 ghost use Rattle.lines.specs.Document01.{document01};
 ghost use Rattle.lines.specs.Reader.{readOf};
-ghost use Rattle.reader.specs.Whole.{Answers};
+ghost use Rattle.reader.specs.Whole.{Judged, Answers};
 
-// The firing that a sheet gives, or the first rule that it breaks and the line, 0 for the whole sheet.
+// The firing that a sheet gives and a place that is not refused, or the first rule that the sheet breaks as the place; what the firing
+// then is stays open. There is one way through it, so that the compiler need not keep a second sheet. Of a text that is too long nothing
+// is looked at.
+pub fn judged(s: &[u8]) -> Lines
+    ensures { λ r. ⌜ Judged (readOf document01 (now (s .entry))) r ⌝ }
+{
+    let n = s.len();
+    let start = opening(n);
+    let looked = if start.kind == 0 { n } else { 0 };
+    let l = all_lines(&s[..looked], start);
+    let place = verdict(n, l.place, l.sheet);
+    let sheet = l.sheet;
+    Lines { place, sheet }
+}
+
+// The firing that a sheet gives, or the first rule that it breaks and the line, 0 for the whole sheet; then the firing is blank.
 pub fn read(s: &[u8]) -> Outcome
     ensures { λ r. ⌜ Answers (readOf document01 (now (s .entry))) r ⌝ }
 {
-    let n = s.len();
-    if n > 16_384 {
-        return rejected(Refusal::TooLong, 0);
-    }
-    let l = all_lines(s);
+    let l = judged(s);
     let p = l.place;
-    let line = p.line;
     if p.kind == 0 {
-        if p.at < n {
-            return rejected(Refusal::Surplus, line);
-        }
         let sheet = l.sheet;
-        return judged(sheet);
+        return Outcome {
+            accepted: true,
+            refusal: Refusal::Accepted,
+            line: 0,
+            sheet,
+        };
     }
     let why = refusal_of(p.kind, p.field);
-    rejected(why, line)
+    rejected(why, p.line)
 }

@@ -6,8 +6,11 @@ ghost use lib.ListN.{length, take};
 ghost use Rattle.lines.specs.Document01.{sumOf};
 ghost use Rattle.lines.specs.Rules.{Every};
 ghost use Rattle.tiers.specs.Stages.{SmallGas};
-ghost use Rattle.reader.specs.Whole.{headOf, LinesRead, Sized, rejectedAs, judgedAs};
+ghost use Rattle.entries.specs.Place.{refusedAt, Ready};
+ghost use Rattle.reader.specs.Whole.{headOf, openingAs, LinesRead, Sized, rejectedAs, verdictAs};
 use entries::Place;
+use entries::coded::field_of;
+use entries::coded::kind_of;
 use groups::parts::parts_part;
 use groups::parts::sections_part;
 use groups::parts::setters_part;
@@ -58,17 +61,38 @@ pub struct Lines {
     pub sheet: Sheet,
 }
 
-// All lines, from `sheet` to `end`.
-pub fn all_lines(s: &[u8]) -> Lines
-    requires { ⌜ length (now s) ≤ 16384 ⌝ }
-    ensures { λ r. ⌜ LinesRead (now (s .entry)) r ⌝ }
+// A place that is refused.
+fn refused(refusal: Refusal, line: usize) -> Place
+    ensures { λ r. ⌜ r ≡ refusedAt refusal line ⌝ }
 {
-    let start = Place {
+    Place {
+        kind: kind_of(refusal),
+        field: field_of(refusal),
+        line,
+        at: 0,
+    }
+}
+
+// Where the reading of so many bytes begins: before the first line, or refused if they are more than a sheet may have.
+pub fn opening(n: usize) -> Place
+    ensures { λ r. ⌜ r ≡ openingAs n ⌝ }
+{
+    if n > 16_384 {
+        return refused(Refusal::TooLong, 0);
+    }
+    Place {
         kind: 0,
         field: 0,
         line: 1,
         at: 0,
-    };
+    }
+}
+
+// All lines, from `sheet` to `end`; a refused place passes through.
+pub fn all_lines(s: &[u8], start: Place) -> Lines
+    requires { ⌜ Ready (now s) start ⌝ }
+    ensures { λ r. ⌜ LinesRead (now (s .entry)) start r ⌝ }
+{
     let edition = edition_line(s, start);
     let upper = upper_lines(s, edition.place);
     let lower = lower_lines(s, upper.place);
@@ -135,29 +159,31 @@ pub fn rejected(refusal: Refusal, line: usize) -> Outcome
     }
 }
 
-// The rules of the whole sheet: the gas of all stages, and then a reading for every section in every stage.
-pub fn judged(sheet: Sheet) -> Outcome
+// The place after the rules of the whole sheet: that nothing stands below the last line, the gas of all stages, and then a reading for
+// every section in every stage.
+pub fn verdict(n: usize, p: Place, sheet: Sheet) -> Place
     requires { ⌜ Sized sheet ⌝ }
-    ensures { λ r. ⌜ r ≡ judgedAs sheet ⌝ }
+    ensures { λ r. ⌜ r ≡ verdictAs n p sheet ⌝ }
 {
+    if p.kind != 0 {
+        return p;
+    }
+    if p.at < n {
+        return refused(Refusal::Surplus, p.line);
+    }
     let stages = sheet.stages;
     let lines = stages.lines;
     let count = stages.count;
     let total = gas_total(lines, count.0);
     let t = GasTotal::checked(total, 0, 1);
     if t.fault != 0 {
-        return rejected(Refusal::GasTotal, 0);
+        return refused(Refusal::GasTotal, 0);
     }
     let sections = sheet.sections;
     let number = sections.count;
     let readings = sheet.readings;
     if walls::all_read(readings, number.0, count.0) {
-        return Outcome {
-            accepted: true,
-            refusal: Refusal::Accepted,
-            line: 0,
-            sheet,
-        };
+        return p;
     }
-    rejected(Refusal::Missing, 0)
+    refused(Refusal::Missing, 0)
 }

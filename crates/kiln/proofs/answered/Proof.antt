@@ -6,22 +6,36 @@ use mathlib.Core.List.{List}
 use native.Mathlib.Omega.{arith}
 use lib.ListN.{length}
 use Rattle.sheet.specs.declared.Sheet.{Sheet}
+use Rattle.sheet.specs.declared.Refusal.{Refusal}
+use Rattle.sheet.specs.Refusals.{number}
+use Rattle.lines.specs.Reader.{Refused, readOf}
+use Rattle.lines.specs.Document01.{document01}
 use Rattle.lines.specs.Rows.{firingOf}
 use Rattle.lines.proofs.Numbering.{refuses}
 use Rattle.formulas.specs.Report.{keys, linesText, report}
 use Rattle.heat.specs.Balance.{Kept}
-use Rattle.reader.proofs.Answering.{Firm, firm, firm-limits, refused-as}
-use Rattle.kiln.specs.Answer.{fitted, placed}
+use Rattle.entries.specs.Place.{reason}
+use Rattle.entries.proofs.Places.{is-good, is-bad}
+use Rattle.reader.proofs.Answering.{Firm, firm-judged, firm-limits, refused-judged}
+use Rattle.kiln.specs.Answer.{refusedAs, fitted, placed}
 use Rattle.kiln.proofs.Answering.{answer-good, buffer-good, short-good, answer-bad, buffer-bad, short-bad}
 use Rattle.kiln.proofs.answered.Statement.{statement}
 use Rattle.kiln.proofs.answered.Tie as tie
 
-read-requires : tie.Need-read-requires
-read-requires c κs = search needs
+judged-requires : tie.Need-judged-requires
+judged-requires c κs = search needs
 
 -- what was accepted
-abbrev firing : (c : tie.After-sheet) → Firm (c .before .before .before .before .before .args .sheet .now) (c .before .before .read .result .sheet)
-firing c = firm _ (c .before .before .read .result) (c .before .before .read .ensures) (c .before .if1 .taken)
+abbrev firing : (c : tie.After-firing) → Firm (c .before .before .before .before .before .before .before .args .sheet .now) (c .before .before .before .before .judged .result .sheet)
+firing c =
+    let j = c .before .before .before .before .judged in
+    firm-judged _ (j .result) (j .ensures) (is-good (j .result .place) (c .before .if1 .taken))
+
+-- what was refused
+abbrev refusal : (c : tie.Else1) → let r = c .before .before .before .judged .result in readOf document01 (c .before .before .before .before .before .before .args .sheet .now) ≡ Refused (reason (r .place)) (r .place .line)
+refusal c =
+    let j = c .before .before .before .judged in
+    refused-judged _ (j .result) (j .ensures) (is-bad (j .result .place) (c .if1 .left))
 
 kept : {s : List ℕ} {x : Sheet} (a : Firm s x) → Kept x (firingOf (a .sheet))
 kept a = record { shows = a .shows; limits = firm-limits a }
@@ -40,7 +54,7 @@ unfolding report
 returns c =
     let w = c .before .before .reported .ensures in
     let d = c .before .before .before .before in
-    let s = d .before .before .before .before .before .before in
+    let s = d .before .before .before .before .before .before .before .before in
     let a = firing (d .before) in
     let text : linesText keys (d .figures .result) ≡ report (firingOf (a .sheet)) = ap (linesText keys) (d .figures .ensures (firingOf (a .sheet)) (kept a)) in (
       w .0 ∙ ap (λ (t : List ℕ). fitted t (length (s .args .room .now))) text ∙ answer-good (s .args .sheet .now) (a .good) (length (s .args .room .now)),
@@ -48,26 +62,24 @@ returns c =
     )
 
 refused-requires : tie.Need-refused-requires
-refused-requires c κs =
-    let r = c .before .read in
-    let e = refused-as _ (r .result) (r .ensures) (c .if1 .left) in
-    omega (arith, refuses _ (r .result .refusal) (r .result .line) e .within)
+refused-requires c κs = omega (arith, refuses _ _ _ (refusal (c .before)) .within)
 
 returns-2 : tie.Need-returns-2
 returns-2 c =
-    let r = c .before .before .read in
-    let s = c .before .before .before .before .before in
-    let e = refused-as _ (r .result) (r .ensures) (c .before .if1 .left) in
-    (c .refused .ensures ∙ answer-bad (s .args .sheet .now) e (length (s .args .room .now)), (buffer-bad (s .args .sheet .now) e (s .args .room .now), short-bad (s .args .sheet .now) e))
+    let s = c .before .before .before .before .before .before .before .before in
+    let e = refusal (c .before .before) in
+    let n = c .before .before .before .before .before .judged .result .place .line in
+    (c .refused .ensures ∙ ap (λ (x : Refusal). refusedAs (number x) n) (c .before .refusal-of .ensures) ∙ answer-bad (s .args .sheet .now) e (length (s .args .room .now)), (buffer-bad (s .args .sheet .now) e (s .args .room .now), short-bad (s .args .sheet .now) e))
 
 pub answered-spec : {M : Type 1} → statement M
 answered-spec =
     tie.close
     (tie.spec
-    read-requires
+    judged-requires
     figures-requires
     reported-requires
     same-length
     returns
+    (λ c κs. search needs)
     refused-requires
     returns-2)

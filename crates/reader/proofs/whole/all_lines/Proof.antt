@@ -13,27 +13,27 @@ upper-lines-requires : tie.Need-upper-lines-requires
 upper-lines-requires c κs = search needs
 
 lower-lines-requires : tie.Need-lower-lines-requires
-lower-lines-requires c κs = record { short = c .before .before .before .pre; fair = c .upper-lines .ensures [] .fair }
+lower-lines-requires c κs = record { short = c .before .before .before .pre .short; fair = c .upper-lines .ensures [] .fair }
 
 stages-part-requires : tie.Need-stages-part-requires
-stages-part-requires c κs = record { short = c .before .before .before .before .pre; fair = c .lower-lines .ensures [] .fair }
+stages-part-requires c κs = record { short = c .before .before .before .before .pre .short; fair = c .lower-lines .ensures [] .fair }
 
 setters-part-requires : tie.Need-setters-part-requires
-setters-part-requires c κs = record { short = c .before .before .before .before .before .pre; fair = c .stages-part .ensures .after [] .fair }
+setters-part-requires c κs = record { short = c .before .before .before .before .before .pre .short; fair = c .stages-part .ensures .after [] .fair }
 
 parts-part-requires : tie.Need-parts-part-requires
-parts-part-requires c κs = record { short = c .before .before .before .before .before .before .pre; fair = c .setters-part .ensures [] .fair }
+parts-part-requires c κs = record { short = c .before .before .before .before .before .before .pre .short; fair = c .setters-part .ensures [] .fair }
 
 sections-part-requires : tie.Need-sections-part-requires
-sections-part-requires c κs = record { short = c .before .before .before .before .before .before .before .pre; fair = c .parts-part .ensures [] .fair }
+sections-part-requires c κs = record { short = c .before .before .before .before .before .before .before .pre .short; fair = c .parts-part .ensures [] .fair }
 
 walls-part-requires : tie.Need-walls-part-requires
 walls-part-requires c κs =
     let d = c .sections-part in
-    (d .ensures .within, record { short = c .before .before .before .before .before .before .before .before .pre; fair = d .ensures .after [] refl .fair })
+    (d .ensures .within, record { short = c .before .before .before .before .before .before .before .before .pre .short; fair = d .ensures .after [] refl .fair })
 
 closing-line-requires : tie.Need-closing-line-requires
-closing-line-requires c κs = record { short = c .before .before .before .before .before .before .before .before .before .pre; fair = walls-pass _ _ _ _ _ (c .walls-part .ensures) .fair }
+closing-line-requires c κs = record { short = c .before .before .before .before .before .before .before .before .before .pre .short; fair = walls-pass _ _ _ _ _ (c .walls-part .ensures) .fair }
 
 returns : tie.Need-returns
 returns c =
@@ -47,10 +47,10 @@ returns c =
     let l = a .before in
     let u = l .before in
     let e = u .before in
-    let s = e .before .before .args .s .now in
+    let a₀ = e .before .before .args in
     rw (h .head-of .ensures)
     (record {
-      after = lines-after s (e .edition-line .result) (u .upper-lines .result) (l .lower-lines .result) (a .stages-part .result) (b .setters-part .result) (p .parts-part .result) (d .sections-part .result) (w .walls-part .result) (z .closing-line .result) _ _
+      after = lines-after (a₀ .s .now) (a₀ .start) (e .edition-line .result) (u .upper-lines .result) (l .lower-lines .result) (a .stages-part .result) (b .setters-part .result) (p .parts-part .result) (d .sections-part .result) (w .walls-part .result) (z .closing-line .result) _ _
           (e .edition-line .ensures) (u .upper-lines .ensures) (l .lower-lines .ensures) (a .stages-part .ensures) (b .setters-part .ensures) (p .parts-part .ensures) (d .sections-part .ensures) (w .walls-part .ensures) (z .closing-line .ensures);
       sized = record { stages = a .stages-part .ensures .within; sections = d .sections-part .ensures .within; small = a .stages-part .ensures .small };
     })
