@@ -5,6 +5,7 @@ use Rattle.sheet.specs.declared.Sheet.{Sheet}
 use Rattle.sheet.specs.Firing.{Firing}
 use Rattle.sheet.specs.Shown.{Shows}
 use Rattle.lines.specs.Limits.{Limits}
+use Rattle.heat.specs.declared.Fittings.{Fittings}
 use Rattle.heat.specs.declared.Income.{Income}
 use Rattle.heat.specs.declared.Solids.{Solids}
 use Rattle.heat.specs.declared.Gases.{Gases}
@@ -21,6 +22,12 @@ pub record Kept (x : Sheet) (f : Firing) : Type 0 where
 -- n joules are the heat q of the firing f, and they are at most so many
 abbrev pub Heat : (Firing → Rounding → ℤ) → Firing → ℕ → ℤ → Type 0
 Heat q f most n = Figure joule most n (q f paper)
+
+pub record FittingHeats (f : Firing) (r : Fittings) : Type 0 where
+  pub q3 : Heat q3 f 115200000000000 (r .q3 .0)
+  pub x5 : Heat x5 f 115200000000000 (r .x5 .0)
+  pub q8 : Heat q8 f 115200000000000 (r .q8 .0)
+  pub x10 : Heat x10 f 115200000000000 (r .x10 .0)
 
 pub record Incomes (f : Firing) (r : Income) : Type 0 where
   pub q1 : Heat q1 f 2600000000000 (r .q1 .0)

@@ -4,7 +4,7 @@ ghost use lib.IntN.{_+ℤ_};
 ghost use Rattle.sheet.specs.Firing.{Firing};
 ghost use Rattle.formulas.specs.Formulas.{q1, q2, spent, useful};
 ghost use Rattle.heat.specs.Steps.{ThreeFits, FiveFits};
-ghost use Rattle.heat.specs.Balance.{Kept, Heat, Incomes, SolidHeats, GasHeats, Balanced};
+ghost use Rattle.heat.specs.Balance.{Kept, Heat, FittingHeats, Incomes, SolidHeats, GasHeats, Balanced};
 use flue::x7;
 use flue::x8;
 use fuel::mixture::burning_of;
@@ -14,12 +14,10 @@ use fuel::q2;
 use fuel::total_gas;
 use quantity::heat::Joules;
 use sheet::Sheet;
-use solids::records::q3;
+use solids::records::part_heats;
 use solids::records::q5;
-use solids::records::q8;
+use solids::records::setter_heats;
 use solids::records::x1;
-use solids::records::x5;
-use solids::records::x10;
 use solids::water::water_heat;
 use solids::water::x2;
 use solids::water::x3;
@@ -29,6 +27,14 @@ use surface::x9;
 pub struct FuelHeat {
     pub q1: Joules,
     pub q2: Joules,
+}
+
+// The heats of the setters and of the kiln's parts, coming in and going out.
+pub struct Fittings {
+    pub q3: Joules,
+    pub x5: Joules,
+    pub q8: Joules,
+    pub x10: Joules,
 }
 
 // What comes in.
@@ -101,19 +107,36 @@ fn fuel_heat(sheet: Sheet) -> FuelHeat
     }
 }
 
-// All that comes in.
-fn income_of(sheet: Sheet) -> Income
+// What setters and parts bring and take.
+fn fittings_of(sheet: Sheet) -> Fittings
     requires { ⌜ ((f : Firing) × Kept sheet f) ⌝ }
-    ensures { λ r. ⌜ ((f : Firing) → Kept sheet f → Incomes f r) ⌝ }
+    ensures { λ r. ⌜ ((f : Firing) → Kept sheet f → FittingHeats f r) ⌝ }
+{
+    let head = sheet.head;
+    let ware = head.ware;
+    let t = head.ambient.degrees();
+    let setters = setter_heats(sheet.setters, t, ware.highest);
+    let parts = part_heats(sheet.parts, t);
+    let q3 = setters.q3;
+    let x5 = setters.x5;
+    let q8 = parts.q8;
+    let x10 = parts.x10;
+    Fittings { q3, x5, q8, x10 }
+}
+
+// All that comes in.
+fn income_of(sheet: Sheet, fittings: Fittings) -> Income
+    requires { ⌜ ((f : Firing) × (Kept sheet f × FittingHeats f fittings)) ⌝ }
+    ensures { λ r. ⌜ ((f : Firing) → Kept sheet f → FittingHeats f fittings → Incomes f r) ⌝ }
 {
     let head = sheet.head;
     let t = head.ambient.degrees();
     let fuel = fuel_heat(sheet);
     let q1 = fuel.q1;
     let q2 = fuel.q2;
-    let q3 = q3(sheet.setters, t);
+    let q3 = fittings.q3;
     let q5 = q5(head.ware, t);
-    let q8 = q8(sheet.parts, t);
+    let q8 = fittings.q8;
     let total = five(q1, q2, q3, q5, q8);
     Income {
         q1,
@@ -126,18 +149,17 @@ fn income_of(sheet: Sheet) -> Income
 }
 
 // What goes into ware, water, clay, setters and parts.
-fn solids_of(sheet: Sheet) -> Solids
+fn solids_of(sheet: Sheet, fittings: Fittings) -> Solids
     requires { ⌜ ((f : Firing) × Kept sheet f) ⌝ }
-    ensures { λ r. ⌜ ((f : Firing) → Kept sheet f → SolidHeats f r) ⌝ }
+    ensures { λ r. ⌜ ((f : Firing) → Kept sheet f → FittingHeats f fittings → SolidHeats f r) ⌝ }
 {
     let head = sheet.head;
-    let ware = head.ware;
     let t = head.ambient.degrees();
-    let x1 = x1(head.product, ware);
+    let x1 = x1(head.product, head.ware);
     let x2 = x2(head.water, t);
     let x3 = x3(head.clay);
-    let x5 = x5(sheet.setters, ware.highest);
-    let x10 = x10(sheet.parts, t);
+    let x5 = fittings.x5;
+    let x10 = fittings.x10;
     Solids {
         x1,
         x2,
@@ -188,8 +210,9 @@ pub fn balance(sheet: Sheet) -> Heats
     requires { ⌜ ((f : Firing) × Kept sheet f) ⌝ }
     ensures { λ r. ⌜ ((f : Firing) → Kept sheet f → Balanced f r) ⌝ }
 {
-    let income = income_of(sheet);
-    let solids = solids_of(sheet);
+    let fittings = fittings_of(sheet);
+    let income = income_of(sheet, fittings);
+    let solids = solids_of(sheet, fittings);
     let gases = gases_of(sheet);
     let useful = useful_of(sheet, solids);
     let total = income.total;

@@ -5,7 +5,7 @@ ghost use Rattle.sheet.specs.Shown.{ware as wareOf};
 ghost use Rattle.lines.specs.Limits.{SetterIn, PartIn};
 ghost use Rattle.formulas.specs.Rounding.{paper};
 ghost use Rattle.formulas.specs.Formulas.{joule, q3, q5, q8, x1, x5, x10};
-ghost use Rattle.formulas.specs.Figures.{Figure};
+ghost use Rattle.formulas.specs.Figures.{Within, Figure};
 ghost use Rattle.solids.specs.Steps.{Loads, WareWarmed, WareFired, settersOf, partsOf};
 use crate::material::sensible;
 use formulas::block::held;
@@ -17,64 +17,53 @@ use sheet::Parts;
 use sheet::Setters;
 use sheet::Ware;
 
-// The setters' heat above the base temperature.
-pub fn q3(setters: Setters, t: Degrees) -> Joules
+// The setters' heat above the base temperature, and what they take up until the ware's highest temperature.
+pub struct SetterHeats {
+    pub q3: Joules,
+    pub x5: Joules,
+}
+
+// The parts' heat above the base temperature, before lighting and at firing temperature.
+pub struct PartHeats {
+    pub q8: Joules,
+    pub x10: Joules,
+}
+
+// Both heats of the setters, in one loop: each loop over the array costs a copy of it.
+pub fn setter_heats(setters: Setters, t: Degrees, highest: Degrees) -> SetterHeats
     requires { ⌜ Loads SetterIn (settersOf setters) (t .0) ⌝ }
-    ensures { λ r. ⌜ ((f : Firing) → f .setters ≡ settersOf setters → f .ambient ≡ t .0 → Figure joule 115200000000000 (r .0) (q3 f paper)) ⌝ }
+    requires { ⌜ Within 18000 (highest .0) ⌝ }
+    ensures { λ r. ⌜ ((f : Firing) → f .setters ≡ settersOf setters → f .ambient ≡ t .0 → Figure joule 115200000000000 (r .q3 .0) (q3 f paper)) ⌝ }
+    ensures { λ r. ⌜ ((f : Firing) → f .setters ≡ settersOf setters → f .ware .highest ≡ highest .0 → Figure joule 115200000000000 (r .x5 .0) (x5 f paper)) ⌝ }
 {
     let lines = setters.lines;
     let count = held(setters.count.0, 32);
-    let mut sum = Joules(0);
+    let mut q3 = Joules(0);
+    let mut x5 = Joules(0);
     for i in 0..count {
         let setter = lines[i];
-        sum = sum.plus(sensible(setter.mass, setter.stuff, setter.entry, t));
+        q3 = q3.plus(sensible(setter.mass, setter.stuff, setter.entry, t));
+        x5 = x5.plus(sensible(setter.mass, setter.stuff, highest, setter.entry));
     }
-    sum
+    SetterHeats { q3, x5 }
 }
 
-// The heat that the setters take up until the ware's highest temperature.
-pub fn x5(setters: Setters, highest: Degrees) -> Joules
-    requires { ⌜ Loads SetterIn (settersOf setters) (highest .0) ⌝ }
-    ensures { λ r. ⌜ ((f : Firing) → f .setters ≡ settersOf setters → f .ware .highest ≡ highest .0 → Figure joule 115200000000000 (r .0) (x5 f paper)) ⌝ }
-{
-    let lines = setters.lines;
-    let count = held(setters.count.0, 32);
-    let mut sum = Joules(0);
-    for i in 0..count {
-        let setter = lines[i];
-        sum = sum.plus(sensible(setter.mass, setter.stuff, highest, setter.entry));
-    }
-    sum
-}
-
-// The parts' heat above the base temperature, before lighting.
-pub fn q8(parts: Parts, t: Degrees) -> Joules
+// Both heats of the parts.
+pub fn part_heats(parts: Parts, t: Degrees) -> PartHeats
     requires { ⌜ Loads PartIn (partsOf parts) (t .0) ⌝ }
-    ensures { λ r. ⌜ ((f : Firing) → f .parts ≡ partsOf parts → f .ambient ≡ t .0 → Figure joule 115200000000000 (r .0) (q8 f paper)) ⌝ }
+    ensures { λ r. ⌜ ((f : Firing) → f .parts ≡ partsOf parts → f .ambient ≡ t .0 → Figure joule 115200000000000 (r .q8 .0) (q8 f paper)) ⌝ }
+    ensures { λ r. ⌜ ((f : Firing) → f .parts ≡ partsOf parts → f .ambient ≡ t .0 → Figure joule 115200000000000 (r .x10 .0) (x10 f paper)) ⌝ }
 {
     let lines = parts.lines;
     let count = held(parts.count.0, 32);
-    let mut sum = Joules(0);
+    let mut q8 = Joules(0);
+    let mut x10 = Joules(0);
     for i in 0..count {
         let part = lines[i];
-        sum = sum.plus(sensible(part.mass, part.stuff, part.before, t));
+        q8 = q8.plus(sensible(part.mass, part.stuff, part.before, t));
+        x10 = x10.plus(sensible(part.mass, part.stuff, part.firing, t));
     }
-    sum
-}
-
-// The parts' heat above the base temperature, at firing temperature.
-pub fn x10(parts: Parts, t: Degrees) -> Joules
-    requires { ⌜ Loads PartIn (partsOf parts) (t .0) ⌝ }
-    ensures { λ r. ⌜ ((f : Firing) → f .parts ≡ partsOf parts → f .ambient ≡ t .0 → Figure joule 115200000000000 (r .0) (x10 f paper)) ⌝ }
-{
-    let lines = parts.lines;
-    let count = held(parts.count.0, 32);
-    let mut sum = Joules(0);
-    for i in 0..count {
-        let part = lines[i];
-        sum = sum.plus(sensible(part.mass, part.stuff, part.firing, t));
-    }
-    sum
+    PartHeats { q8, x10 }
 }
 
 // The green ware's heat above the base temperature.

@@ -1,7 +1,6 @@
--- Each heat by its function. Assumes nothing.
+-- Each heat by its function, or as it was handed in. Assumes nothing.
 use mathlib.Core.Path.{sym, _∙_}
 use borrow.Author.Needs.{needs}
-use Rattle.formulas.proofs.Sizes.{sized}
 use Rattle.heat.proofs.Kept.{own, field}
 use Rattle.heat.proofs.solids_of.Statement.{statement}
 use Rattle.heat.proofs.solids_of.Tie as tie
@@ -10,39 +9,28 @@ degrees-requires : tie.Need-degrees-requires
 degrees-requires c κs = search needs
 
 x1-requires : tie.Need-x1-requires
-x1-requires c κs = let l = own (c .before .before .before .pre .1) in record { product = l .product; ware = l .ware }
+x1-requires c κs = let l = own (c .before .before .pre .1) in record { product = l .product; ware = l .ware }
 
 x2-requires : tie.Need-x2-requires
 x2-requires c κs =
-    let l = own (c .before .before .before .before .pre .1) in
+    let l = own (c .before .before .before .pre .1) in
     record { water = l .water; ambient = rw (c .before .degrees .ensures) (l .ambient) }
 
 x3-requires : tie.Need-x3-requires
-x3-requires c κs = own (c .before .before .before .before .before .pre .1) .clay
-
-x5-requires : tie.Need-x5-requires
-x5-requires c κs =
-    let l = own (c .before .before .before .before .before .before .pre .1) in
-    record { each = l .setters; other = sized (l .ware .highest) tt }
-
-x10-requires : tie.Need-x10-requires
-x10-requires c κs =
-    let l = own (c .before .before .before .before .before .before .before .pre .1) in
-    record { each = l .parts; other = rw (c .before .before .before .before .degrees .ensures) (sized (l .ambient) tt) }
+x3-requires c κs = own (c .before .before .before .before .pre .1) .clay
 
 returns : tie.Need-returns
 returns c =
-    λ f k.
-    let t = field k (λ g. g .ambient) ∙ sym (c .before .before .before .before .before .degrees .ensures) in
-    record {
-      x1 = c .before .before .before .before .x1 .ensures f (field k (λ g. g .product)) (field k (λ g. g .ware));
-      x2 = c .before .before .before .x2 .ensures f (field k (λ g. g .water)) t;
-      x3 = c .before .before .x3 .ensures f (field k (λ g. g .clay));
-      x5 = c .before .x5 .ensures f (field k (λ g. g .setters)) (field k (λ g. g .ware .highest));
-      x10 = c .x10 .ensures f (field k (λ g. g .parts)) t;
+    let x3 = c .before .before in
+    let x2 = x3 .before in
+    let x1 = x2 .before in
+    λ f k h. record {
+      x1 = x1 .x1 .ensures f (field k (λ g. g .product)) (field k (λ g. g .ware));
+      x2 = x2 .x2 .ensures f (field k (λ g. g .water)) (field k (λ g. g .ambient) ∙ sym (x1 .before .degrees .ensures));
+      x3 = x3 .x3 .ensures f (field k (λ g. g .clay));
+      x5 = h .x5;
+      x10 = h .x10;
     }
 
 pub solids-of-spec : {M : Type 1} → statement M
-solids-of-spec =
-    tie.close
-    (tie.spec degrees-requires x1-requires x2-requires x3-requires x5-requires x10-requires returns)
+solids-of-spec = tie.close (tie.spec degrees-requires x1-requires x2-requires x3-requires returns)

@@ -1,0 +1,120 @@
+-- The loop's invariant: what is summed so far, twice, is the sum over the first i parts. Assumes nothing.
+use mathlib.Core.Path.{_≡_}
+use mathlib.Core.List.{List}
+use Prim.Native.Nat.{_≤_, _<_, _-_, min}
+use native.Mathlib.Omega.{arith}
+use borrow.Author.Needs.{needs}
+use lib.IntN.{ℤ}
+use lib.ListN.{length, getD}
+use Rattle.sheet.specs.declared.Part.{Part as Partˢ}
+use Rattle.sheet.specs.Firing.{Part}
+use Rattle.sheet.specs.Shown.{part}
+use Rattle.lines.specs.Limits.{PartIn}
+use Rattle.formulas.specs.Rounding.{paper}
+use Rattle.formulas.specs.Formulas.{joule, sum, sensible, q8, x10}
+use Rattle.formulas.proofs.Sizes.{sized}
+use Rattle.formulas.proofs.Sums.{unmapped, first, each, Running, none, more-fits, summed, blocked}
+use Rattle.solids.proofs.Blank.{blankPart}
+use Rattle.solids.proofs.records.part_heats.Statement.{statement}
+use Rattle.solids.proofs.records.part_heats.Tie as tie
+
+-- a part's heat before lighting, and at firing temperature
+abbrev unlit : ℤ → Part → ℤ
+unlit t x = sensible paper (x .mass) (x .stuff) (x .before) t
+
+abbrev fired : ℤ → Part → ℤ
+fired t x = sensible paper (x .mass) (x .stuff) (x .firing) t
+
+abbrev Inv-loop : tie.InvT-loop
+Inv-loop t lines count q8₀ x10₀ i₀ q8 x10 i =
+    (i ≤ count) × Running joule 3600000000000 i (q8 .0) (first (unlit (t .0)) part lines i) × Running joule 3600000000000 i (x10 .0) (first (fired (t .0)) part lines i)
+
+abbrev μ-loop : tie.MeasureT-loop
+μ-loop t lines count q8₀ x10₀ i₀ q8 x10 i = count - i
+
+abbrev lines : tie.Start Inv-loop μ-loop → List Partˢ
+lines s = s .args .parts .lines
+
+long : (s : tie.Start Inv-loop μ-loop) → length (lines s) ≡ 32
+long s = search (needs, unmapped)
+
+held-requires : tie.Need-held-requires Inv-loop μ-loop
+held-requires c κs = search needs
+
+loop-holds : tie.Need-loop-holds Inv-loop μ-loop
+unfolding sum
+loop-holds c = (omega arith, none, none)
+
+loop-again : tie.Need-loop-again Inv-loop μ-loop
+loop-again c =
+    let l = c .before .before .before .before .before .before in
+    let s = l .before .before .before in
+    let inside : l .loop .i < length (lines s) = omega (arith, long s) in (
+      omega arith,
+      rw (c .before .before .plus .ensures) (summed (unlit (s .args .t .0)) part (lines s) blankPart inside (l .loop .inv .1) (c .before .before .before .sensible .ensures)),
+      rw (c .plus2 .ensures) (summed (fired (s .args .t .0)) part (lines s) blankPart inside (l .loop .inv .2) (c .before .sensible2 .ensures)),
+    )
+
+mul-part : tie.Need-mul-part Inv-loop μ-loop
+mul-part c = omega arith
+
+array-copy-out-part : tie.Need-array-copy-out-part Inv-loop μ-loop
+array-copy-out-part c = omega arith
+
+-- the part of this turn is within its limits
+within : (c : tie.After-part Inv-loop μ-loop) → PartIn (part (getD (lines (c .before .before .before .before .before)) (c .before .before .loop .i) blankPart))
+within c =
+    let s = c .before .before .before .before .before in
+    each PartIn part (lines s) (s .args .parts .count .0) (c .before .before .loop .i) blankPart (s .pre .each) (omega arith) (omega (arith, long s))
+
+sensible-requires : tie.Need-sensible-requires Inv-loop μ-loop
+sensible-requires c κs =
+    let h = within c in
+    record { mass = sized (h .mass) tt; stuff = h .stuff; at = sized (h .before) tt; from = c .before .before .before .before .before .pre .other }
+
+plus-requires : tie.Need-plus-requires Inv-loop μ-loop
+plus-requires c κs = more-fits (c .before .before .before .loop .inv .1) (c .sensible .ensures) 32 (omega arith) tt
+
+sensible-requires-2 : tie.Need-sensible-requires-2 Inv-loop μ-loop
+sensible-requires-2 c κs =
+    let h = within (c .before .before) in
+    record { mass = sized (h .mass) tt; stuff = h .stuff; at = sized (h .firing) tt; from = c .before .before .before .before .before .before .before .pre .other }
+
+plus-requires-2 : tie.Need-plus-requires-2 Inv-loop μ-loop
+plus-requires-2 c κs = more-fits (c .before .before .before .before .before .loop .inv .2) (c .sensible2 .ensures) 32 (omega arith) tt
+
+add-i : tie.Need-add-i Inv-loop μ-loop
+add-i c = search needs
+
+loop-less : tie.Need-loop-less Inv-loop μ-loop
+loop-less c = search needs
+
+returns : tie.Need-returns Inv-loop μ-loop
+unfolding q8 x10
+returns c =
+    let s = c .before .before .before .before in
+    let l = c .before .loop in
+    let n = s .args .parts .count .0 in
+    let e : l .i ≡ min n 32 = omega arith in (
+      λ f e₁ e₂. rw (e₁, e₂) (blocked (unlit (s .args .t .0)) part (lines s) n 32 (long s) e (l .inv .1)),
+      λ f e₁ e₂. rw (e₁, e₂) (blocked (fired (s .args .t .0)) part (lines s) n 32 (long s) e (l .inv .2)),
+    )
+
+pub part-heats-spec : {M : Type 1} → statement M
+part-heats-spec =
+    tie.close
+    (tie.spec
+    Inv-loop
+    μ-loop
+    held-requires
+    loop-holds
+    mul-part
+    array-copy-out-part
+    sensible-requires
+    plus-requires
+    sensible-requires-2
+    plus-requires-2
+    add-i
+    loop-less
+    loop-again
+    returns)

@@ -1,0 +1,120 @@
+-- The loop's invariant: what is summed so far, twice, is the sum over the first i setters. Assumes nothing.
+use mathlib.Core.Path.{_≡_}
+use mathlib.Core.List.{List}
+use Prim.Native.Nat.{_≤_, _<_, _-_, min}
+use native.Mathlib.Omega.{arith}
+use borrow.Author.Needs.{needs}
+use lib.IntN.{ℤ}
+use lib.ListN.{length, getD}
+use Rattle.sheet.specs.declared.Setter.{Setter as Setterˢ}
+use Rattle.sheet.specs.Firing.{Setter}
+use Rattle.sheet.specs.Shown.{setter}
+use Rattle.lines.specs.Limits.{SetterIn}
+use Rattle.formulas.specs.Rounding.{paper}
+use Rattle.formulas.specs.Formulas.{joule, sum, sensible, q3, x5}
+use Rattle.formulas.proofs.Sizes.{sized}
+use Rattle.formulas.proofs.Sums.{unmapped, first, each, Running, none, more-fits, summed, blocked}
+use Rattle.solids.proofs.Blank.{blankSetter}
+use Rattle.solids.proofs.records.setter_heats.Statement.{statement}
+use Rattle.solids.proofs.records.setter_heats.Tie as tie
+
+-- the heat that a setter brings, and the heat that it takes up
+abbrev brought : ℤ → Setter → ℤ
+brought t x = sensible paper (x .mass) (x .stuff) (x .entry) t
+
+abbrev taken : ℤ → Setter → ℤ
+taken highest x = sensible paper (x .mass) (x .stuff) highest (x .entry)
+
+abbrev Inv-loop : tie.InvT-loop
+Inv-loop t highest lines count q3₀ x5₀ i₀ q3 x5 i =
+    (i ≤ count) × Running joule 3600000000000 i (q3 .0) (first (brought (t .0)) setter lines i) × Running joule 3600000000000 i (x5 .0) (first (taken (highest .0)) setter lines i)
+
+abbrev μ-loop : tie.MeasureT-loop
+μ-loop t highest lines count q3₀ x5₀ i₀ q3 x5 i = count - i
+
+abbrev lines : tie.Start Inv-loop μ-loop → List Setterˢ
+lines s = s .args .setters .lines
+
+long : (s : tie.Start Inv-loop μ-loop) → length (lines s) ≡ 32
+long s = search (needs, unmapped)
+
+held-requires : tie.Need-held-requires Inv-loop μ-loop
+held-requires c κs = search needs
+
+loop-holds : tie.Need-loop-holds Inv-loop μ-loop
+unfolding sum
+loop-holds c = (omega arith, none, none)
+
+loop-again : tie.Need-loop-again Inv-loop μ-loop
+loop-again c =
+    let l = c .before .before .before .before .before .before in
+    let s = l .before .before .before in
+    let inside : l .loop .i < length (lines s) = omega (arith, long s) in (
+      omega arith,
+      rw (c .before .before .plus .ensures) (summed (brought (s .args .t .0)) setter (lines s) blankSetter inside (l .loop .inv .1) (c .before .before .before .sensible .ensures)),
+      rw (c .plus2 .ensures) (summed (taken (s .args .highest .0)) setter (lines s) blankSetter inside (l .loop .inv .2) (c .before .sensible2 .ensures)),
+    )
+
+mul-setter : tie.Need-mul-setter Inv-loop μ-loop
+mul-setter c = omega arith
+
+array-copy-out-setter : tie.Need-array-copy-out-setter Inv-loop μ-loop
+array-copy-out-setter c = omega arith
+
+-- the setter of this turn is within its limits
+within : (c : tie.After-setter Inv-loop μ-loop) → SetterIn (setter (getD (lines (c .before .before .before .before .before)) (c .before .before .loop .i) blankSetter))
+within c =
+    let s = c .before .before .before .before .before in
+    each SetterIn setter (lines s) (s .args .setters .count .0) (c .before .before .loop .i) blankSetter (s .pre .0 .each) (omega arith) (omega (arith, long s))
+
+sensible-requires : tie.Need-sensible-requires Inv-loop μ-loop
+sensible-requires c κs =
+    let h = within c in
+    record { mass = sized (h .mass) tt; stuff = h .stuff; at = sized (h .entry) tt; from = c .before .before .before .before .before .pre .0 .other }
+
+plus-requires : tie.Need-plus-requires Inv-loop μ-loop
+plus-requires c κs = more-fits (c .before .before .before .loop .inv .1) (c .sensible .ensures) 32 (omega arith) tt
+
+sensible-requires-2 : tie.Need-sensible-requires-2 Inv-loop μ-loop
+sensible-requires-2 c κs =
+    let h = within (c .before .before) in
+    record { mass = sized (h .mass) tt; stuff = h .stuff; at = c .before .before .before .before .before .before .before .pre .1; from = sized (h .entry) tt }
+
+plus-requires-2 : tie.Need-plus-requires-2 Inv-loop μ-loop
+plus-requires-2 c κs = more-fits (c .before .before .before .before .before .loop .inv .2) (c .sensible2 .ensures) 32 (omega arith) tt
+
+add-i : tie.Need-add-i Inv-loop μ-loop
+add-i c = search needs
+
+loop-less : tie.Need-loop-less Inv-loop μ-loop
+loop-less c = search needs
+
+returns : tie.Need-returns Inv-loop μ-loop
+unfolding q3 x5
+returns c =
+    let s = c .before .before .before .before in
+    let l = c .before .loop in
+    let n = s .args .setters .count .0 in
+    let e : l .i ≡ min n 32 = omega arith in (
+      λ f e₁ e₂. rw (e₁, e₂) (blocked (brought (s .args .t .0)) setter (lines s) n 32 (long s) e (l .inv .1)),
+      λ f e₁ e₂. rw (e₁, e₂) (blocked (taken (s .args .highest .0)) setter (lines s) n 32 (long s) e (l .inv .2)),
+    )
+
+pub setter-heats-spec : {M : Type 1} → statement M
+setter-heats-spec =
+    tie.close
+    (tie.spec
+    Inv-loop
+    μ-loop
+    held-requires
+    loop-holds
+    mul-setter
+    array-copy-out-setter
+    sensible-requires
+    plus-requires
+    sensible-requires-2
+    plus-requires-2
+    add-i
+    loop-less
+    loop-again
+    returns)
