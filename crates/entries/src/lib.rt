@@ -88,7 +88,7 @@ fn careful(s: &[u8], p: Place, key: &[u8], n: usize, v: &mut [i64; 13]) -> Place
 
 // Reads the form of the line that is due into an array of zeros, from the place behind its key, which is 0 where another key stands there; a
 // refused place passes through. Since `due` and `gas_line` both call it, the compiler does not copy it into every line's function.
-pub fn form(s: &[u8], p: Place, key: &[u8], behind: usize, n: usize, v: &mut [i64; 13]) -> Place
+fn form(s: &[u8], p: Place, key: &[u8], behind: usize, n: usize, v: &mut [i64; 13]) -> Place
     requires { ⌜ n ≤ 13 ⌝ }
     requires { ⌜ Ready (now s) p ⌝ }
     requires { ⌜ ((behind ≡ 0 → ⊥) → Keyed (now s) (p .at) (now key) × (behind ≡ p .at + length (now key))) ⌝ }
