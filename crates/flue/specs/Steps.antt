@@ -1,4 +1,5 @@
 -- What each formula's code asks: that no step of it leaves an i64, or the ranges from which that follows.
+use Prim.Native.Nat.{_^_}
 use mathlib.Core.List.{List}
 use lib.IntN.{ℤ, pos, _+ℤ_, _-ℤ_, _*ℤ_}
 use mir.Syntax.{w64}
@@ -7,6 +8,9 @@ use Rattle.sheet.specs.Firing.{Gas, Stage}
 use Rattle.lines.specs.Quantities.{ambient, moisture}
 use Rattle.lines.specs.Rules.{Every}
 use Rattle.lines.specs.Limits.{In, StageIn}
+use Rattle.formulas.specs.Rounding.{paper}
+use Rattle.formulas.specs.Formulas.{dryFlue}
+use Rattle.formulas.specs.Figures.{Within, Figure}
 use Rattle.fuel.specs.declared.mixture.Burning.{Burning}
 use Rattle.fuel.specs.Mixture.{Burnt}
 
@@ -30,8 +34,17 @@ pub record BurnsIn (m : Burning) (s : Stage) : Type 0 where
   pub burnt : Burnt gas m
   pub stage : StageIn s
 
-pub record DryIn (m : Burning) (s : Stage) (t : ℤ) : Type 0 where
-  pub burns : BurnsIn m s
+-- n hundred-thousandths of a cubic metre are the dry flue gas of a stage
+abbrev pub Volume : Gas → Stage → ℤ → Type 0
+Volume g s n = Figure (10 ^ 5) 304405200000 n (dryFlue paper g s)
+
+-- a stage, and so much dry flue gas as one can give
+pub record FilledIn (n : ℤ) (s : Stage) : Type 0 where
+  pub volume : Within 304405200000 n
+  pub stage : StageIn s
+
+pub record DryIn (n : ℤ) (s : Stage) (t : ℤ) : Type 0 where
+  pub filled : FilledIn n s
   pub ambient : In ambient t
 
 pub record MoistIn (m : Burning) (X : ℤ) (s : Stage) : Type 0 where
@@ -43,12 +56,9 @@ pub record FlueIn (m : Burning) (X : ℤ) (s : Stage) (t : ℤ) : Type 0 where
   pub ambient : In ambient t
 
 -- all stages
-pub record AllBurnIn (m : Burning) (l : List Stage) : Type 0 where
+pub record AllFlueIn (m : Burning) (X : ℤ) (l : List Stage) (t : ℤ) : Type 0 where
   pub gas : Gas
   pub burnt : Burnt gas m
   pub stages : Every StageIn l
-
-pub record AllFlueIn (m : Burning) (X : ℤ) (l : List Stage) (t : ℤ) : Type 0 where
-  pub burn : AllBurnIn m l
   pub moisture : In moisture X
   pub ambient : In ambient t

@@ -8,11 +8,11 @@ ghost use Rattle.arith.specs.Nearest.{nearest};
 ghost use Rattle.sheet.specs.Firing.{Gas, Firing};
 ghost use Rattle.sheet.specs.Shown.{stage as stageOf};
 ghost use Rattle.formulas.specs.Rounding.{paper};
-ghost use Rattle.formulas.specs.Formulas.{joule, dryFlue, vapourRate, vapour, dryHeat, vapourHeat, flueHeat, monoxideHeat, x7, x8};
+ghost use Rattle.formulas.specs.Formulas.{joule, vapourRate, vapour, dryHeat, vapourHeat, flueHeat, monoxideHeat, x7, x8};
 ghost use Rattle.formulas.specs.Figures.{Figure};
 ghost use Rattle.formulas.specs.Steps.{ProductFits, stagesOf};
 ghost use Rattle.fuel.specs.Mixture.{Burnt};
-ghost use Rattle.flue.specs.Steps.{DryFits, RateFits, BurnsIn, DryIn, MoistIn, FlueIn, AllBurnIn, AllFlueIn};
+ghost use Rattle.flue.specs.Steps.{DryFits, RateFits, BurnsIn, Volume, FilledIn, DryIn, MoistIn, FlueIn, AllFlueIn};
 use formulas::block::held;
 use formulas::rounding::Microjoules;
 use fuel::mixture::Burning;
@@ -90,7 +90,7 @@ fn dry_exact(gas: CubicMetres, rate: DryRate) -> DryExact
 // The dry flue gas of a stage.
 fn dry_flue(burning: Burning, stage: Stage) -> DryFlue
     requires { ⌜ BurnsIn burning (stageOf stage) ⌝ }
-    ensures { λ r. ⌜ ((g : Gas) → Burnt g burning → Figure (10 ^ 5) 304405200000 (r .0) (dryFlue paper g (stageOf stage))) ⌝ }
+    ensures { λ r. ⌜ ((g : Gas) → Burnt g burning → Volume g (stageOf stage) (r .0)) ⌝ }
 {
     dry_exact(stage.gas, dry_rate(burning, stage.excess)).rounded()
 }
@@ -138,12 +138,12 @@ fn dry_carried(volume: DryFlue, rise: Rise) -> Microjoules
 }
 
 // The heat of a stage's dry flue gas.
-fn dry_heat(burning: Burning, stage: Stage, t: Degrees) -> Joules
-    requires { ⌜ DryIn burning (stageOf stage) (t .0) ⌝ }
-    ensures { λ r. ⌜ ((g : Gas) → Burnt g burning → Figure joule 5139820920960 (r .0) (dryHeat paper g (t .0) (stageOf stage))) ⌝ }
+fn dry_heat(volume: DryFlue, stage: Stage, t: Degrees) -> Joules
+    requires { ⌜ DryIn (volume .0) (stageOf stage) (t .0) ⌝ }
+    ensures { λ r. ⌜ ((g : Gas) → Volume g (stageOf stage) (volume .0) → Figure joule 5139820920960 (r .0) (dryHeat paper g (t .0) (stageOf stage))) ⌝ }
 {
     let rise = stage.flue.degrees().above(t);
-    dry_carried(dry_flue(burning, stage), rise).joules()
+    dry_carried(volume, rise).joules()
 }
 
 // m c (flue − t) of the vapour.
@@ -163,28 +163,6 @@ fn vapour_heat(burning: Burning, moisture: Moisture, stage: Stage, t: Degrees) -
     vapour_carried(vapour(burning, moisture, stage), rise).joules()
 }
 
-// The heat of a stage's flue gas.
-fn flue_heat(burning: Burning, moisture: Moisture, stage: Stage, t: Degrees) -> Joules
-    requires { ⌜ FlueIn burning (moisture .0) (stageOf stage) (t .0) ⌝ }
-    ensures { λ r. ⌜ ((g : Gas) → Burnt g burning → Figure joule 5800013659199 (r .0) (flueHeat paper g (moisture .0) (t .0) (stageOf stage))) ⌝ }
-{
-    dry_heat(burning, stage, t).plus(vapour_heat(burning, moisture, stage, t))
-}
-
-// The heat that leaves with the flue gas.
-pub fn x7(burning: Burning, moisture: Moisture, stages: Stages, t: Degrees) -> Joules
-    requires { ⌜ AllFlueIn burning (moisture .0) (stagesOf stages) (t .0) ⌝ }
-    ensures { λ r. ⌜ ((f : Firing) → Burnt (f .gas) burning → f .moisture ≡ moisture .0 → f .stages ≡ stagesOf stages → f .ambient ≡ t .0 → Figure joule 69600163910388 (r .0) (x7 f paper)) ⌝ }
-{
-    let lines = stages.lines;
-    let count = held(stages.count.0, 12);
-    let mut sum = Joules(0);
-    for i in 0..count {
-        sum = sum.plus(flue_heat(burning, moisture, lines[i], t));
-    }
-    sum
-}
-
 // V CO 12750, with CO as a fraction.
 fn unburnt(volume: DryFlue, co: CarbonMonoxide) -> Microjoules
     requires { ⌜ ProductFits (volume .0) (co .0) (pos 12750) ⌝ }
@@ -194,23 +172,46 @@ fn unburnt(volume: DryFlue, co: CarbonMonoxide) -> Microjoules
 }
 
 // Formula 23: the heat that a stage's carbon monoxide would have given.
-fn monoxide_heat(burning: Burning, stage: Stage) -> Joules
-    requires { ⌜ BurnsIn burning (stageOf stage) ⌝ }
-    ensures { λ r. ⌜ ((g : Gas) → Burnt g burning → Figure joule 3881166300000 (r .0) (monoxideHeat paper g (stageOf stage))) ⌝ }
+fn monoxide_heat(volume: DryFlue, stage: Stage) -> Joules
+    requires { ⌜ FilledIn (volume .0) (stageOf stage) ⌝ }
+    ensures { λ r. ⌜ ((g : Gas) → Volume g (stageOf stage) (volume .0) → Figure joule 3881166300000 (r .0) (monoxideHeat paper g (stageOf stage))) ⌝ }
 {
-    unburnt(dry_flue(burning, stage), stage.co).joules()
+    unburnt(volume, stage.co).joules()
 }
 
-// The heat that leaves unburnt.
-pub fn x8(burning: Burning, stages: Stages) -> Joules
-    requires { ⌜ AllBurnIn burning (stagesOf stages) ⌝ }
-    ensures { λ r. ⌜ ((f : Firing) → Burnt (f .gas) burning → f .stages ≡ stagesOf stages → Figure joule 46573995600000 (r .0) (x8 f paper)) ⌝ }
+// The heat that leaves with the flue gas, and the heat that leaves unburnt.
+pub struct FlueHeats {
+    pub x7: Joules,
+    pub x8: Joules,
+}
+
+// Both heats of a stage, from the dry flue gas that is worked once.
+fn stage_heats(burning: Burning, moisture: Moisture, stage: Stage, t: Degrees) -> FlueHeats
+    requires { ⌜ FlueIn burning (moisture .0) (stageOf stage) (t .0) ⌝ }
+    ensures { λ r. ⌜ ((g : Gas) → Burnt g burning → Figure joule 5800013659199 (r .x7 .0) (flueHeat paper g (moisture .0) (t .0) (stageOf stage))) ⌝ }
+    ensures { λ r. ⌜ ((g : Gas) → Burnt g burning → Figure joule 3881166300000 (r .x8 .0) (monoxideHeat paper g (stageOf stage))) ⌝ }
+{
+    let volume = dry_flue(burning, stage);
+    let dry = dry_heat(volume, stage, t);
+    let x7 = dry.plus(vapour_heat(burning, moisture, stage, t));
+    let x8 = monoxide_heat(volume, stage);
+    FlueHeats { x7, x8 }
+}
+
+// Both heats of all stages, in one loop: each loop over the array costs a copy of it.
+pub fn flue_heats(burning: Burning, moisture: Moisture, stages: Stages, t: Degrees) -> FlueHeats
+    requires { ⌜ AllFlueIn burning (moisture .0) (stagesOf stages) (t .0) ⌝ }
+    ensures { λ r. ⌜ ((f : Firing) → Burnt (f .gas) burning → f .moisture ≡ moisture .0 → f .stages ≡ stagesOf stages → f .ambient ≡ t .0 → Figure joule 69600163910388 (r .x7 .0) (x7 f paper)) ⌝ }
+    ensures { λ r. ⌜ ((f : Firing) → Burnt (f .gas) burning → f .stages ≡ stagesOf stages → Figure joule 46573995600000 (r .x8 .0) (x8 f paper)) ⌝ }
 {
     let lines = stages.lines;
     let count = held(stages.count.0, 12);
-    let mut sum = Joules(0);
+    let mut x7 = Joules(0);
+    let mut x8 = Joules(0);
     for i in 0..count {
-        sum = sum.plus(monoxide_heat(burning, lines[i]));
+        let stage = stage_heats(burning, moisture, lines[i], t);
+        x7 = x7.plus(stage.x7);
+        x8 = x8.plus(stage.x8);
     }
-    sum
+    FlueHeats { x7, x8 }
 }

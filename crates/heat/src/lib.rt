@@ -5,8 +5,7 @@ ghost use Rattle.sheet.specs.Firing.{Firing};
 ghost use Rattle.formulas.specs.Formulas.{q1, q2, spent, useful};
 ghost use Rattle.heat.specs.Steps.{ThreeFits, FiveFits};
 ghost use Rattle.heat.specs.Balance.{Kept, Heat, FittingHeats, Incomes, SolidHeats, GasHeats, Balanced};
-use flue::x7;
-use flue::x8;
+use flue::flue_heats;
 use fuel::mixture::burning_of;
 use fuel::mixture::warmth_of;
 use fuel::q1;
@@ -179,8 +178,9 @@ fn gases_of(sheet: Sheet) -> Gases
     let readings = sheet.readings;
     let t = head.ambient.degrees();
     let burning = burning_of(shares);
-    let x7 = x7(burning, head.moisture, sheet.stages, t);
-    let x8 = x8(burning, sheet.stages);
+    let flue = flue_heats(burning, head.moisture, sheet.stages, t);
+    let x7 = flue.x7;
+    let x8 = flue.x8;
     let x9 = x9(readings, sheet.sections, sheet.stages);
     Gases { x7, x8, x9 }
 }

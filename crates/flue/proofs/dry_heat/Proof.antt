@@ -17,16 +17,13 @@ degrees-requires c κs = search needs
 above-requires : tie.Need-above-requires
 above-requires c κs =
     let p = c .before .pre in
-    rw (c .degrees .ensures) (fit (limits (p .burns .stage .flue) ∷ limits (p .ambient) ∷ []) (raw 0 ⟨-⟩ raw 1) tt)
-
-dry-flue-requires : tie.Need-dry-flue-requires
-dry-flue-requires c κs = search needs
+    rw (c .degrees .ensures) (fit (limits (p .filled .stage .flue) ∷ limits (p .ambient) ∷ []) (raw 0 ⟨-⟩ raw 1) tt)
 
 dry-carried-requires : tie.Need-dry-carried-requires
 dry-carried-requires c κs =
-    let p = c .before .before .before .pre in
-    let ks = within (c .dry-flue .ensures (p .burns .gas) (p .burns .burnt) .size) ∷ limits (p .burns .stage .flue) ∷ limits (p .ambient) ∷ [] in
-    rw (c .before .above .ensures, c .before .before .degrees .ensures)
+    let p = c .before .before .pre in
+    let ks = within (p .filled .volume) ∷ limits (p .filled .stage .flue) ∷ limits (p .ambient) ∷ [] in
+    rw (c .above .ensures, c .before .degrees .ensures)
     (record { one = fit ks (raw 0 ⟨*⟩ num (pos 1384)) tt; all = fit ks (raw 0 ⟨*⟩ num (pos 1384) ⟨*⟩ (raw 1 ⟨-⟩ raw 2)) tt })
 
 joules-requires : tie.Need-joules-requires
@@ -35,14 +32,11 @@ joules-requires c κs = search needs
 returns : tie.Need-returns
 unfolding dryHeat
 returns c =
-    let s = c .before .before .before .before .before in
-    let volume = c .before .before .dry-flue .ensures in
+    let s = c .before .before .before .before in
+    let p = s .pre in
     let rise = s .args .stage .flue .0 -ℤ s .args .t .0 in
-    λ g b.
-    let size = most (within (volume g b .size) ∷ limits (s .pre .burns .stage .flue) ∷ limits (s .pre .ambient) ∷ []) (raw 0 ⟨*⟩ num (pos 1384) ⟨*⟩ (raw 1 ⟨-⟩ raw 2)) {B = 5139820920960000000} tt in
-    rounded 1000000 (joule / 10 ^ 6) (lit< tt) (lit< tt) (finer (times (times (volume g b .is) (pos 1384)) rise) (joule / 10 ^ 11)) size (lit< tt) (rw (c .joules .ensures, c .before .dry-carried .ensures, c .before .before .before .above .ensures, c .before .before .before .before .degrees .ensures))
+    let size = most (within (p .filled .volume) ∷ limits (p .filled .stage .flue) ∷ limits (p .ambient) ∷ []) (raw 0 ⟨*⟩ num (pos 1384) ⟨*⟩ (raw 1 ⟨-⟩ raw 2)) {B = 5139820920960000000} tt in
+    λ g v. rounded 1000000 (joule / 10 ^ 6) (lit< tt) (lit< tt) (finer (times (times (v .is) (pos 1384)) rise) (joule / 10 ^ 11)) size (lit< tt) (rw (c .joules .ensures, c .before .dry-carried .ensures, c .before .before .above .ensures, c .before .before .before .degrees .ensures))
 
 pub dry-heat-spec : {M : Type 1} → statement M
-dry-heat-spec =
-    tie.close
-    (tie.spec degrees-requires above-requires dry-flue-requires dry-carried-requires joules-requires returns)
+dry-heat-spec = tie.close (tie.spec degrees-requires above-requires dry-carried-requires joules-requires returns)

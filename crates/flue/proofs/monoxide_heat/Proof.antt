@@ -14,23 +14,19 @@ use Rattle.flue.proofs.monoxide_heat.Tie as tie
 returns : tie.Need-returns
 unfolding monoxideHeat
 returns c =
-    let s = c .before .before .before in
-    let volume = c .before .before .dry-flue .ensures in
-    λ g b.
-    let size = most (within (volume g b .size) ∷ limits (s .pre .stage .co) ∷ []) (raw 0 ⟨*⟩ raw 1 ⟨*⟩ num (pos 12750)) {B = 3881166300000000000} tt in
-    rounded 1000000 (joule / 10 ^ 6) (lit< tt) (lit< tt) (finer (times (times (volume g b .is) (s .args .stage .co .0)) (pos 12750)) (joule / 10 ^ 11)) size (lit< tt) (rw (c .joules .ensures, c .before .unburnt .ensures))
-
-dry-flue-requires : tie.Need-dry-flue-requires
-dry-flue-requires c κs = search needs
+    let s = c .before .before in
+    let p = s .pre in
+    let size = most (within (p .volume) ∷ limits (p .stage .co) ∷ []) (raw 0 ⟨*⟩ raw 1 ⟨*⟩ num (pos 12750)) {B = 3881166300000000000} tt in
+    λ g v. rounded 1000000 (joule / 10 ^ 6) (lit< tt) (lit< tt) (finer (times (times (v .is) (s .args .stage .co .0)) (pos 12750)) (joule / 10 ^ 11)) size (lit< tt) (rw (c .joules .ensures, c .before .unburnt .ensures))
 
 unburnt-requires : tie.Need-unburnt-requires
 unburnt-requires c κs =
-    let p = c .before .pre in
-    let ks = within (c .dry-flue .ensures (p .gas) (p .burnt) .size) ∷ limits (p .stage .co) ∷ [] in
+    let p = c .pre in
+    let ks = within (p .volume) ∷ limits (p .stage .co) ∷ [] in
     record { one = fit ks (raw 0 ⟨*⟩ raw 1) tt; all = fit ks (raw 0 ⟨*⟩ raw 1 ⟨*⟩ num (pos 12750)) tt }
 
 joules-requires : tie.Need-joules-requires
 joules-requires c κs = search needs
 
 pub monoxide-heat-spec : {M : Type 1} → statement M
-monoxide-heat-spec = tie.close (tie.spec dry-flue-requires unburnt-requires joules-requires returns)
+monoxide-heat-spec = tie.close (tie.spec unburnt-requires joules-requires returns)

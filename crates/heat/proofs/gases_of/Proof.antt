@@ -19,37 +19,27 @@ degrees-requires c κs = search needs
 burning-of-requires : tie.Need-burning-of-requires
 burning-of-requires c κs = own (c .before .before .before .before .pre .1) .gas
 
-x7-requires : tie.Need-x7-requires
-x7-requires c κs =
+flue-heats-requires : tie.Need-flue-heats-requires
+flue-heats-requires c κs =
     let l = own (c .before .before .before .before .before .pre .1) in
-    record {
-      burn = record { gas = _; burnt = c .burning-of .ensures; stages = l .stages };
-      moisture = l .moisture;
-      ambient = rw (c .before .degrees .ensures) (l .ambient);
-    }
-
-x8-requires : tie.Need-x8-requires
-x8-requires c κs =
-    let l = own (c .before .before .before .before .before .before .pre .1) in
-    record { gas = _; burnt = c .before .burning-of .ensures; stages = l .stages }
+    record { gas = _; burnt = c .burning-of .ensures; stages = l .stages; moisture = l .moisture; ambient = rw (c .before .degrees .ensures) (l .ambient) }
 
 x9-requires : tie.Need-x9-requires
 x9-requires c κs =
-    let p = c .before .before .before .before .before .before .before .pre in
+    let p = c .before .before .before .before .before .before .before .before .pre in
     (p .0, seen (p .1))
 
 returns : tie.Need-returns
 returns c =
-    let burning = c .before .before .before .burning-of in
+    let h = c .before .before .before in
+    let burning = h .before .burning-of in
     λ f k.
     let burnt = subst (λ (g : Gas). Burnt g (burning .result)) (sym (field k (λ g. g .gas))) (burning .ensures) in
     record {
-      x7 = c .before .before .x7 .ensures f burnt (field k (λ g. g .moisture)) (field k (λ g. g .stages)) (field k (λ g. g .ambient) ∙ sym (c .before .before .before .before .degrees .ensures));
-      x8 = c .before .x8 .ensures f burnt (field k (λ g. g .stages));
+      x7 = h .flue-heats .ensures .0 f burnt (field k (λ g. g .moisture)) (field k (λ g. g .stages)) (field k (λ g. g .ambient) ∙ sym (h .before .before .degrees .ensures));
+      x8 = h .flue-heats .ensures .1 f burnt (field k (λ g. g .stages));
       x9 = c .x9 .ensures f (seen k);
     }
 
 pub gases-of-spec : {M : Type 1} → statement M
-gases-of-spec =
-    tie.close
-    (tie.spec degrees-requires burning-of-requires x7-requires x8-requires x9-requires returns)
+gases-of-spec = tie.close (tie.spec degrees-requires burning-of-requires flue-heats-requires x9-requires returns)

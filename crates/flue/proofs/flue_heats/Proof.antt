@@ -1,0 +1,111 @@
+-- The loop's invariant: for the fuel that burns, what is summed so far, twice, is the sum over the first i stages. Assumes nothing.
+use mathlib.Core.Path.{_≡_}
+use mathlib.Core.List.{List}
+use Prim.Native.Nat.{ℕ, _≤_, _<_, _-_, min}
+use native.Mathlib.Omega.{arith}
+use borrow.Author.Needs.{needs}
+use lib.ListN.{length, getD}
+use Rattle.sheet.specs.declared.Stage.{Stage as Stageˢ}
+use Rattle.sheet.specs.Firing.{Gas}
+use Rattle.sheet.specs.Shown.{stage}
+use Rattle.lines.specs.Limits.{StageIn}
+use Rattle.formulas.specs.Rounding.{paper}
+use Rattle.formulas.specs.Formulas.{joule, sum, flueHeat, monoxideHeat, x7, x8}
+use Rattle.fuel.specs.Mixture.{Burnt}
+use Rattle.formulas.proofs.Sums.{unmapped, blankStage, first, each, Running, none, more-fits, summed, blocked}
+use Rattle.flue.proofs.flue_heats.Statement.{statement}
+use Rattle.flue.proofs.flue_heats.Tie as tie
+
+abbrev Inv-loop : tie.InvT-loop
+Inv-loop burning moisture t lines count x7₀ x8₀ i₀ x7 x8 i =
+    (i ≤ count)
+    × ((g : Gas) → Burnt g burning → Running joule 5800013659199 i (x7 .0) (first (flueHeat paper g (moisture .0) (t .0)) stage lines i))
+    × ((g : Gas) → Burnt g burning → Running joule 3881166300000 i (x8 .0) (first (monoxideHeat paper g) stage lines i))
+
+abbrev μ-loop : tie.MeasureT-loop
+μ-loop burning moisture t lines count x7₀ x8₀ i₀ x7 x8 i = count - i
+
+abbrev lines : tie.Start Inv-loop μ-loop → List Stageˢ
+lines s = s .args .stages .lines
+
+long : (s : tie.Start Inv-loop μ-loop) → length (lines s) ≡ 12
+long s = search (needs, unmapped)
+
+kept : (s : tie.Start Inv-loop μ-loop) (i : ℕ) → i < s .args .stages .count .0 → i < 12 → StageIn (stage (getD (lines s) i blankStage))
+kept s i h k = each StageIn stage (lines s) (s .args .stages .count .0) i blankStage (s .pre .stages) h (omega (arith, long s))
+
+held-requires : tie.Need-held-requires Inv-loop μ-loop
+held-requires c κs = search needs
+
+loop-holds : tie.Need-loop-holds Inv-loop μ-loop
+unfolding sum
+loop-holds c = (omega arith, λ g b. none, λ g b. none)
+
+mul-stage-heats : tie.Need-mul-stage-heats Inv-loop μ-loop
+mul-stage-heats c = omega arith
+
+array-copy-out-stage-heats : tie.Need-array-copy-out-stage-heats Inv-loop μ-loop
+array-copy-out-stage-heats c = omega arith
+
+loop-again : tie.Need-loop-again Inv-loop μ-loop
+loop-again c =
+    let h = c .before .before in
+    let l = h .before .before .before in
+    let s = l .before .before .before in
+    let inside : l .loop .i < length (lines s) = omega (arith, long s) in (
+      omega arith,
+      λ g b. rw (c .before .plus .ensures) (summed (flueHeat paper g (s .args .moisture .0) (s .args .t .0)) stage (lines s) blankStage inside (l .loop .inv .1 g b) (h .stage-heats .ensures .0 g b)),
+      λ g b. rw (c .plus2 .ensures) (summed (monoxideHeat paper g) stage (lines s) blankStage inside (l .loop .inv .2 g b) (h .stage-heats .ensures .1 g b)),
+    )
+
+stage-heats-requires : tie.Need-stage-heats-requires Inv-loop μ-loop
+stage-heats-requires c κs =
+    let s = c .before .before .before .before .before in
+    let p = s .pre in
+    let h = kept s (c .before .before .loop .i) (omega arith) (omega arith) in
+    record { moist = record { burns = record { gas = p .gas; burnt = p .burnt; stage = h }; moisture = p .moisture }; ambient = p .ambient }
+
+plus-requires : tie.Need-plus-requires Inv-loop μ-loop
+plus-requires c κs =
+    let p = c .before .before .before .before .before .before .pre in
+    more-fits (c .before .before .before .loop .inv .1 (p .gas) (p .burnt)) (c .stage-heats .ensures .0 (p .gas) (p .burnt)) 12 (omega arith) tt
+
+plus-requires-2 : tie.Need-plus-requires-2 Inv-loop μ-loop
+plus-requires-2 c κs =
+    let p = c .before .before .before .before .before .before .before .pre in
+    more-fits (c .before .before .before .before .loop .inv .2 (p .gas) (p .burnt)) (c .before .stage-heats .ensures .1 (p .gas) (p .burnt)) 12 (omega arith) tt
+
+add-i : tie.Need-add-i Inv-loop μ-loop
+add-i c = search needs
+
+loop-less : tie.Need-loop-less Inv-loop μ-loop
+loop-less c = search needs
+
+returns : tie.Need-returns Inv-loop μ-loop
+unfolding x7 x8
+returns c =
+    let s = c .before .before .before .before in
+    let l = c .before .loop in
+    let n = s .args .stages .count .0 in
+    let e : l .i ≡ min n 12 = omega arith in (
+      λ f b e₁ e₂ e₃. rw (e₁, e₂, e₃) (blocked (flueHeat paper (f .gas) (s .args .moisture .0) (s .args .t .0)) stage (lines s) n 12 (long s) e (l .inv .1 (f .gas) b)),
+      λ f b e₁. rw e₁ (blocked (monoxideHeat paper (f .gas)) stage (lines s) n 12 (long s) e (l .inv .2 (f .gas) b)),
+    )
+
+pub flue-heats-spec : {M : Type 1} → statement M
+flue-heats-spec =
+    tie.close
+    (tie.spec
+    Inv-loop
+    μ-loop
+    held-requires
+    loop-holds
+    mul-stage-heats
+    array-copy-out-stage-heats
+    stage-heats-requires
+    plus-requires
+    plus-requires-2
+    add-i
+    loop-less
+    loop-again
+    returns)
