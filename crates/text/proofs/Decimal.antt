@@ -5,12 +5,12 @@ use mathlib.Core.Bool.{Bool, true, false}
 use mathlib.Core.Logic.{_⊎_, inl, inr, ⊎-elim}
 use mathlib.Core.List.{List, [], _∷_, _++_, append-assoc}
 use Prim.Native.Nat.{ℕ, zero, suc, _+_, _*_, _/_, _%_, _^_, _≤_, _<_}
-use native.Mathlib.Nat.{le-refl, pow-suc}
+use native.Mathlib.Nat.{le-refl, lt-of-not-le, pow-suc, pow-le-pow-right}
 use native.Mathlib.Numerals.{add-one}
 use native.Mathlib.Omega.{arith}
 use lib.ListN.{length, getD, length-append, List·getD-append}
 use lib.IntN.{ℤ, pos, negsuc, natAbs}
-use lib.Dec.{ltb}
+use lib.Dec.{ltb, lit<}
 use mir.Syntax.{w64}
 use mir.Val.{SFits}
 use borrow.Author.Tests.{lt-ltb, le-ltb, ltb-true, ltb-false}
@@ -95,6 +95,13 @@ length-digits (suc k) n h =
 
 pub digits-below : (n : ℕ) → n < 10 ^ length (digits n)
 digits-below = by-digits (λ n. n < 10 ^ length (digits n)) (λ n h. rw (length-one n h) h) (λ n h q. rw (length-more n h, add-one, pow-suc) (omega arith))
+
+pub digits-above : (k n : ℕ) → 10 ^ k ≤ n → k < length (digits n)
+digits-above k n h =
+    lt-of-not-le
+    (λ short.
+    let p : 10 ^ length (digits n) ≤ 10 ^ k = pow-le-pow-right {n = 10} (lit< tt) short in
+    omega (arith, digits-below n))
 
 -- how digits begin
 pub record Leads (n : ℕ) : Type 0 where

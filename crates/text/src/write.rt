@@ -25,14 +25,15 @@ pub fn width(z: i64) -> usize
     if z < 0 { n + 1 } else { n }
 }
 
-// How many digits a number has.
+// How many digits a number has: by products, which are quicker than quotients.
 fn digit_count(n: u64) -> usize
     ensures { λ r. ⌜ r ≡ length (digits n) ⌝ }
 {
+    let most = n / 10;
     let mut k = 1;
-    let mut rest = n;
-    while 10 <= rest {
-        rest /= 10;
+    let mut power = 1;
+    while power <= most {
+        power *= 10;
         k += 1;
     }
     k
