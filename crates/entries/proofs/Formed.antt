@@ -15,8 +15,8 @@ use Rattle.text.specs.Scanning.{upTo}
 use Rattle.sheet.specs.declared.Refusal.the-variants.{Accepted}
 use Rattle.lines.specs.Schema.{Row, Judged, refused, values, formedBy}
 use Rattle.lines.specs.Reader.{judged}
-use Rattle.line.specs.declared.Line.{Line}
-use Rattle.line.specs.Line.{zeros, handed, lineAt}
+use Rattle.fault.specs.declared.Line.{Line}
+use Rattle.fault.specs.Line.{zeros, handed, lineAt}
 use Rattle.entries.specs.declared.Place.{Place}
 use Rattle.entries.specs.Place.{good, goingOn, refusedAt, Fair, Ready, Meets, After}
 use Rattle.amounts.specs.Taking.{plainNumbers, from}

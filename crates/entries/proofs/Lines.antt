@@ -18,7 +18,7 @@ use Rattle.lines.specs.Schema as schema
 use Rattle.lines.specs.Document01.{when}
 use Rattle.lines.specs.Reader.{stopped, got, judged, readLine}
 use Rattle.lines.proofs.Cases.{unless-values}
-use Rattle.line.proofs.Judgement.{numbers-many}
+use Rattle.fault.proofs.Judgement.{numbers-many}
 use Rattle.entries.specs.declared.Place.{Place}
 use Rattle.entries.specs.Place.{good, refusedAt, Fair, Stands, Meets, After, ranged, ruled}
 use Rattle.limits.specs.declared.Number.{Number}

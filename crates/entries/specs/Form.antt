@@ -7,7 +7,7 @@ use lib.ListN.{length}
 use lib.Seq.{sets}
 use lib.IntN.{ℤ}
 use Rattle.text.specs.Bytes.{bytes}
-use Rattle.line.specs.Line.{zeros}
+use Rattle.fault.specs.Line.{zeros}
 use Rattle.lines.specs.Schema.{Line, Row, formedBy}
 use Rattle.lines.specs.Reader.{Reader, judged}
 use Rattle.entries.specs.declared.Place.{Place}

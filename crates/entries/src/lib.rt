@@ -9,8 +9,8 @@ ghost use mathlib.Core.Path.{_≡_};
 ghost use mathlib.Core.Bool.{true};
 ghost use Prim.Native.Nat.{_+_, _≤_};
 ghost use lib.ListN.{length};
-ghost use Rattle.line.specs.Line.{zeros};
-ghost use Rattle.line.specs.Fields.{Keyed};
+ghost use Rattle.fault.specs.Line.{zeros};
+ghost use Rattle.fault.specs.Fields.{Keyed};
 ghost use Rattle.entries.specs.Place.{good, goingOn, refusedAt, Ready, ranged as rangedPlace, ruled as ruledPlace};
 ghost use Rattle.entries.specs.Form.{FormAfter, DueAfter};
 
@@ -74,7 +74,7 @@ fn careful(s: &[u8], p: Place, key: &[u8], n: usize, v: &mut [i64; 13]) -> Place
     requires { ⌜ length (now v) ≡ 13 ⌝ }
     ensures { λ r. ⌜ FormAfter (now (s .entry)) p (now (key .entry)) n r (now (v .exit)) ⌝ }
 {
-    let l = line::judged(s, p.at, key, n);
+    let l = fault::judged(s, p.at, key, n);
     let line = p.line;
     let next = l.next;
     if next == 0 {

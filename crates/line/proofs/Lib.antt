@@ -1,5 +1,1 @@
-pub mod Pieces
-pub mod Fields
-pub mod Lines
 pub mod Numbers
-pub mod Judgement

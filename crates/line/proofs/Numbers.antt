@@ -21,10 +21,11 @@ use Rattle.text.specs.Scanning.{upTo, find, count, begins}
 use Rattle.text.proofs.Reading.{only-text}
 use Rattle.text.proofs.Scanning.{upTo-front, found, find-hit}
 use Rattle.lines.specs.Schema.{pieces}
-use Rattle.line.specs.Fields.{accepted, fieldsAt, Number}
 use Rattle.lines.proofs.Pieces.{pieces-last, pieces-more, decimal-clear}
-use Rattle.line.proofs.Pieces.{upTo-past}
-use Rattle.line.proofs.Fields.{fields-done, fields-more}
+use Rattle.fault.specs.Fields.{accepted, fieldsAt}
+use Rattle.fault.proofs.Pieces.{upTo-past}
+use Rattle.fault.proofs.Steps.{fields-done, fields-more}
+use Rattle.line.specs.Number.{Number}
 
 -- a number has no byte below its sign
 number-clear : (c : ℕ) → c < 45 → (l : List ℕ) (z : ℤ) → numberOf l ≡ Value z → count l c ≡ 0

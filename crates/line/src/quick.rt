@@ -3,7 +3,8 @@ ghost use mathlib.Core.Path.{_≡_};
 ghost use mathlib.Core.Bool.{true};
 ghost use Prim.Native.Nat.{_≤_, _<_};
 ghost use lib.ListN.{length};
-ghost use Rattle.line.specs.Fields.{accepted, fieldsAt, Keyed, Number};
+ghost use Rattle.fault.specs.Fields.{accepted, fieldsAt, Keyed};
+ghost use Rattle.line.specs.Number.{Number};
 use std::num::wrapping_sub_u8;
 
 // A number and the place after the byte that closes it; place 0 where there is none.

@@ -4,8 +4,8 @@ use mathlib.Core.Logic.{⊎-elim}
 use native.Mathlib.Omega.{arith}
 use lib.ListN.{length}
 use borrow.Author.Needs.{needs}
-use Rattle.line.specs.Fields.{accepted}
-use Rattle.line.proofs.Lines.{keyed-line}
+use Rattle.fault.specs.Fields.{accepted}
+use Rattle.fault.proofs.Lines.{keyed-line}
 use Rattle.entries.specs.Form.{readForm}
 use Rattle.entries.proofs.Places.{is-good, is-bad}
 use Rattle.entries.proofs.Formed.{form-read, form-passed}

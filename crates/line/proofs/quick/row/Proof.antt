@@ -10,7 +10,7 @@ use mir.Val.{toZ, ofZ}
 use mir.ValLaws.{toZ-ofZ}
 use lib.Dec.{lit<}
 use borrow.Author.Needs.{needs}
-use Rattle.line.specs.Fields.{fieldsAt}
+use Rattle.fault.specs.Fields.{fieldsAt}
 use Rattle.line.proofs.Numbers.{row-more, row-last}
 use Rattle.line.proofs.quick.row.Statement.{statement}
 use Rattle.line.proofs.quick.row.Tie as tie

@@ -6,7 +6,7 @@ use lib.Seq.{sets}
 use lib.IntN.{ℤ, pos}
 use Rattle.sheet.specs.declared.Refusal.the-variants.{Accepted}
 use Rattle.lines.specs.Schema.{Judged, refused, values, formedBy}
-use Rattle.line.specs.declared.Line.{Line}
+use Rattle.fault.specs.declared.Line.{Line}
 
 abbrev pub zeros : List ℤ
 zeros = replicate 13 (pos 0)

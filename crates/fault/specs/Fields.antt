@@ -1,5 +1,5 @@
--- What is left of a line while it is read, field by field, and what the quick reader has seen where it says yes.
-use Prim.Native.Nat.{ℕ, suc, _+_, _<_}
+-- What is left of a line while it is read, field by field, and the key before it.
+use Prim.Native.Nat.{ℕ, suc, _+_}
 use mathlib.Core.Path.{_≡_}
 use mathlib.Core.Bool.{true, cond}
 use mathlib.Core.List.{List}
@@ -7,13 +7,11 @@ use lib.ListN.{length, drop}
 use lib.Seq.{sets}
 use lib.Dec.{ltb, eqb}
 use lib.IntN.{ℤ}
-use Rattle.text.specs.declared.Num.the-variants.{Value}
-use Rattle.text.specs.Number.{numberOf}
 use Rattle.text.specs.Scanning.{upTo, find, count, begins}
 use Rattle.sheet.specs.declared.Refusal.the-variants.{Accepted, NoLineFeed, WrongCount, NotANumber}
 use Rattle.lines.specs.Schema.{refused, pieces, onNumbers, numbersOf}
-use Rattle.line.specs.declared.Line.{Line}
-use Rattle.line.specs.Line.{handed}
+use Rattle.fault.specs.declared.Line.{Line}
+use Rattle.fault.specs.Line.{handed}
 
 abbrev pub accepted : ℕ → List ℤ → Line
 accepted next vals = record { refusal = Accepted; next = next; values = vals }
@@ -36,9 +34,3 @@ fieldsAt s p n i vals =
 pub record Keyed (s : List ℕ) (at : ℕ) (key : List ℕ) : Type 0 where
   pub stands : begins key (drop at s) ≡ true
   pub clear : count key 10 ≡ 0
-
--- at a place of s stand a number z and the byte c, and after them the place next
-pub record Number (s : List ℕ) (at c : ℕ) (z : ℤ) (next : ℕ) : Type 0 where
-  pub inside : find s at c < length s
-  pub ends : next ≡ find s at c + 1
-  pub says : numberOf (upTo c (drop at s)) ≡ Value z

@@ -6,10 +6,10 @@ use native.Mathlib.Omega.{arith}
 use lib.ListN.{length, drop, length-append}
 use Rattle.text.specs.Scanning.{upTo, begins}
 use Rattle.text.proofs.Scanning.{piece, begins-key}
-use Rattle.line.proofs.Lines.{endless, unkeyed, line-keyed, line-fields}
+use Rattle.fault.proofs.Lines.{endless, unkeyed, line-keyed, line-fields}
 use borrow.Author.Needs.{needs}
-use Rattle.line.proofs.careful.judged.Statement.{statement}
-use Rattle.line.proofs.careful.judged.Tie as tie
+use Rattle.fault.proofs.judged.Statement.{statement}
+use Rattle.fault.proofs.judged.Tie as tie
 
 -- what `starts` was asked
 begun : (c : tie.After-starts) →

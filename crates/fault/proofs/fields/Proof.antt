@@ -13,13 +13,13 @@ use Rattle.text.specs.Number.{numberOf}
 use Rattle.text.specs.Scanning.{upTo}
 use Rattle.text.proofs.Scanning.{piece}
 use Rattle.lines.specs.Schema.{pieces}
-use Rattle.line.specs.Line.{zeros}
-use Rattle.line.specs.Fields.{fieldsOf}
+use Rattle.fault.specs.Line.{zeros}
+use Rattle.fault.specs.Fields.{fieldsOf}
 use Rattle.lines.proofs.Pieces.{pieces-count}
-use Rattle.line.proofs.Pieces.{left, left-all, Piece, next-piece}
-use Rattle.line.proofs.Fields.{fields-wrong, fields-done, fields-bad, fields-more}
-use Rattle.line.proofs.careful.fields.Statement.{statement}
-use Rattle.line.proofs.careful.fields.Tie as tie
+use Rattle.fault.proofs.Pieces.{left, left-all, Piece, next-piece}
+use Rattle.fault.proofs.Steps.{fields-wrong, fields-done, fields-bad, fields-more}
+use Rattle.fault.proofs.fields.Statement.{statement}
+use Rattle.fault.proofs.fields.Tie as tie
 
 abbrev Inv-loop : tie.InvT-loop
 Inv-loop v n next values₀ at₀ i₀ values at i =

@@ -14,9 +14,9 @@ use Rattle.text.specs.Scanning.{upTo, find, count, begins}
 use Rattle.text.proofs.Scanning.{upTo-clear, count-append, found, piece, begins-key, key-begins}
 use Rattle.sheet.specs.declared.Refusal.the-variants.{NoLineFeed, WrongKey, WrongCount, NotANumber}
 use Rattle.lines.specs.Schema.{refused, values, plain, unless, pieces, Numbers, none-at, all-are, onNumbers, numbersOf, formedBy}
-use Rattle.line.specs.Line.{zeros, handed, lineAt}
-use Rattle.line.specs.Fields.{accepted, fieldsOf, fieldsAt, Keyed}
-use Rattle.line.proofs.Pieces.{upTo-past}
+use Rattle.fault.specs.Line.{zeros, handed, lineAt}
+use Rattle.fault.specs.Fields.{accepted, fieldsOf, fieldsAt, Keyed}
+use Rattle.fault.proofs.Pieces.{upTo-past}
 
 -- the judgement on a line's fields, as the code hands it out
 handed-fields : (at size n : ℕ) (ps : List (List ℕ)) →

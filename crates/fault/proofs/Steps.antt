@@ -13,8 +13,8 @@ use Rattle.text.specs.declared.Num.the-variants as num
 use Rattle.text.specs.Number.{numberOf}
 use Rattle.sheet.specs.declared.Refusal.the-variants.{WrongCount, NotANumber}
 use Rattle.lines.specs.Schema.{refused, Numbers, none-at, all-are, onNumbers, numbersOf}
-use Rattle.line.specs.Line.{handed}
-use Rattle.line.specs.Fields.{accepted, fieldsOf}
+use Rattle.fault.specs.Line.{handed}
+use Rattle.fault.specs.Fields.{accepted, fieldsOf}
 
 -- what the other pieces are as numbers, once the first is stored
 stored : (next i : ℕ) (vals : List ℤ) (z : ℤ) (ns : Numbers) →

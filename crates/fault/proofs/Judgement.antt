@@ -17,8 +17,8 @@ use Rattle.text.specs.Scanning.{upTo, begins}
 use Rattle.sheet.specs.declared.Refusal.the-variants.{Accepted, NoLineFeed, WrongKey, WrongCount, NotANumber}
 use Rattle.sheet.specs.Refusals.{number}
 use Rattle.lines.specs.Schema.{Row, plain, Judged, refused, values, unless, pieces, Numbers, none-at, all-are, onNumber, onNumbers, numbersOf, formedBy}
-use Rattle.line.specs.declared.Line.{Line}
-use Rattle.line.specs.Line.{zeros, handed, lineAt}
+use Rattle.fault.specs.declared.Line.{Line}
+use Rattle.fault.specs.Line.{zeros, handed, lineAt}
 
 pub numbers-many : (i : ℕ) (ps : List (List ℕ)) (zs : List ℤ) → numbersOf i ps ≡ all-are zs → length zs ≡ length ps
 unfolding numbersOf

@@ -1,12 +1,19 @@
-// The careful reader: it asks for one thing after the other, in the definition's order, so that it can name the first fault.
+// The form of one line of a sheet, judged with care: one thing is asked after the other, in the definition's order, so that the first fault has
+// a name. A crate of its own, below the quick reader (crate `line`), since both have edits that must fail, and each checks its crate again.
 ghost use mathlib.Core.Path.{_≡_};
 ghost use Prim.Native.Nat.{_≤_};
 ghost use Rattle.lines.specs.Schema.{refused, pieces};
-ghost use Rattle.line.specs.Line.{zeros, handed, lineAt};
-ghost use Rattle.line.specs.Fields.{fieldsOf};
-use crate::Line;
+ghost use Rattle.fault.specs.Line.{zeros, handed, lineAt};
+ghost use Rattle.fault.specs.Fields.{fieldsOf};
 use sheet::Refusal;
 use text::Num;
+
+// What was read where a line is due: `Accepted`, its numbers and the place after it, or why it is refused.
+pub struct Line {
+    pub refusal: Refusal,
+    pub next: usize,
+    pub values: [i64; 13],
+}
 
 // The line at a place.
 pub fn judged(s: &[u8], at: usize, key: &[u8], n: usize) -> Line

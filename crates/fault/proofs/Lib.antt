@@ -1,0 +1,4 @@
+pub mod Pieces
+pub mod Steps
+pub mod Lines
+pub mod Judgement
