@@ -25,10 +25,11 @@ use Rattle.lines.proofs.Limits.{limits}
 use Rattle.walls.specs.Walls.{allRead}
 use Rattle.walls.proofs.Document.{missing-is}
 use Rattle.entries.specs.declared.Place.{Place}
-use Rattle.reader.specs.declared.whole.Lines.{Lines}
+use Rattle.groups.specs.declared.all.Lines.{Lines}
+use Rattle.groups.specs.All.{Held, Sized}
 use Rattle.reader.specs.declared.whole.Outcome.{Outcome}
 use Rattle.entries.specs.Place.{good, reason, refusedAt, Fair, Ready, Meets, After}
-use Rattle.reader.specs.Whole.{top, openingAs, Held, Sized, gasOf, wholeAs, verdictAs, Judged, rejectedAs, Answers}
+use Rattle.reader.specs.Whole.{top, openingAs, gasOf, wholeAs, verdictAs, Judged, rejectedAs, Answers}
 use Rattle.entries.proofs.Places.{not-both, is-good, refused-bad, refused-why}
 
 map-twice : {A B C : Type 0} (g : B → C) (f : A → B) (l : List A) → map g (map f l) ≡ map (λ x. g (f x)) l

@@ -1,13 +1,13 @@
 // From any byte string: the sheet that it is the text of, or the refusal and its line.
 mod whole;
 
-use crate::whole::all_lines;
 use crate::whole::opening;
 use crate::whole::rejected;
 use crate::whole::verdict;
 use entries::coded::refusal_of;
+use groups::all::Lines;
+use groups::all::all_lines;
 use sheet::Refusal;
-pub use whole::Lines;
 pub use whole::Outcome;
 ghost use Rattle.lines.specs.Document01.{document01};
 ghost use Rattle.lines.specs.Reader.{readOf};

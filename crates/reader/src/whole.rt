@@ -1,4 +1,4 @@
-// The whole sheet: its lines from the first to the last, and then the rules that look at all of them.
+// The whole sheet: where its reading begins, and the rules that look at all of its lines.
 ghost use Prim.Native.Nat.{_≤_};
 ghost use mathlib.Core.Path.{_≡_};
 ghost use mathlib.Core.List.{map};
@@ -6,60 +6,17 @@ ghost use lib.ListN.{length, take};
 ghost use Rattle.lines.specs.Document01.{sumOf};
 ghost use Rattle.lines.specs.Rules.{Every};
 ghost use Rattle.tiers.specs.Stages.{SmallGas};
-ghost use Rattle.entries.specs.Place.{refusedAt, Ready};
-ghost use Rattle.reader.specs.Whole.{headOf, openingAs, LinesRead, Sized, rejectedAs, verdictAs};
+ghost use Rattle.entries.specs.Place.{refusedAt};
+ghost use Rattle.groups.specs.All.{Sized};
+ghost use Rattle.reader.specs.Whole.{openingAs, rejectedAs, verdictAs};
 use entries::Place;
 use entries::coded::field_of;
 use entries::coded::kind_of;
-use groups::parts::parts_part;
-use groups::parts::sections_part;
-use groups::parts::setters_part;
-use groups::parts::stages_part;
-use groups::parts::walls_part;
-use groups::tops::Lower;
-use groups::tops::Upper;
-use groups::tops::lower_lines;
-use groups::tops::upper_lines;
 use limits::Number;
 use quantity::gas::GasTotal;
-use records::head::closing_line;
-use records::head::edition_line;
-use sheet::Head;
 use sheet::Refusal;
 use sheet::Sheet;
 use sheet::Stage;
-
-// The head of a sheet, from its two groups of lines.
-fn head_of(u: Upper, l: Lower) -> Head
-    ensures { λ r. ⌜ r ≡ headOf u l ⌝ }
-{
-    let firing = u.firing;
-    let product = u.product;
-    let ambient = u.ambient;
-    let fuel = u.fuel;
-    let gas = u.gas;
-    let moisture = l.moisture;
-    let ware = l.ware;
-    let water = l.water;
-    let clay = l.clay;
-    Head {
-        firing,
-        product,
-        ambient,
-        fuel,
-        gas,
-        moisture,
-        ware,
-        water,
-        clay,
-    }
-}
-
-// The place after the last line, and all that the lines said.
-pub struct Lines {
-    pub place: Place,
-    pub sheet: Sheet,
-}
 
 // A place that is refused.
 fn refused(refusal: Refusal, line: usize) -> Place
@@ -85,40 +42,6 @@ pub fn opening(n: usize) -> Place
         field: 0,
         line: 1,
         at: 0,
-    }
-}
-
-// All lines, from `sheet` to `end`; a refused place passes through.
-pub fn all_lines(s: &[u8], start: Place) -> Lines
-    requires { ⌜ Ready (now s) start ⌝ }
-    ensures { λ r. ⌜ LinesRead (now (s .entry)) start r ⌝ }
-{
-    let edition = edition_line(s, start);
-    let upper = upper_lines(s, edition.place);
-    let lower = lower_lines(s, upper.place);
-    let a = stages_part(s, lower.place);
-    let b = setters_part(s, a.place);
-    let c = parts_part(s, b.place);
-    let d = sections_part(s, c.place);
-    let w = walls_part(s, d.place, d.sections, a.stages.count.0);
-    let closing = closing_line(s, w.place);
-    let head = head_of(upper, lower);
-    let place = closing.place;
-    let stages = a.stages;
-    let setters = b.setters;
-    let parts = c.parts;
-    let sections = d.sections;
-    let readings = w.readings;
-    Lines {
-        place,
-        sheet: Sheet {
-            head,
-            stages,
-            setters,
-            parts,
-            sections,
-            readings,
-        },
     }
 }
 

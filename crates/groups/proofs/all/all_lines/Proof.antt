@@ -2,9 +2,9 @@
 use mathlib.Core.Path.{refl}
 use mathlib.Core.List.{[]}
 use borrow.Author.Needs.{needs}
-use Rattle.reader.proofs.Held.{walls-pass, lines-after}
-use Rattle.reader.proofs.whole.all_lines.Statement.{statement}
-use Rattle.reader.proofs.whole.all_lines.Tie as tie
+use Rattle.groups.proofs.Held.{walls-pass, lines-after}
+use Rattle.groups.proofs.all.all_lines.Statement.{statement}
+use Rattle.groups.proofs.all.all_lines.Tie as tie
 
 edition-line-requires : tie.Need-edition-line-requires
 edition-line-requires c κs = search needs

@@ -19,21 +19,21 @@ use Rattle.walls.proofs.Readings.{Placed}
 use Rattle.entries.specs.declared.Place.{Place}
 use Rattle.records.specs.declared.head.EditionLine.{EditionLine}
 use Rattle.records.specs.declared.head.ClosingLine.{ClosingLine}
 use Rattle.groups.specs.declared.tops.Upper.{Upper}
 use Rattle.groups.specs.declared.tops.Lower.{Lower}
 use Rattle.groups.specs.declared.parts.StagesPart.{StagesPart}
 use Rattle.groups.specs.declared.parts.SettersPart.{SettersPart}
 use Rattle.groups.specs.declared.parts.PartsPart.{PartsPart}
 use Rattle.groups.specs.declared.parts.SectionsPart.{SectionsPart}
 use Rattle.tiers.specs.declared.surface.WallRows.{WallRows}
 use Rattle.entries.specs.Place.{good, Fair, After}
 use Rattle.tiers.specs.Filling.{Filled}
 use Rattle.blank.specs.Blank.{blankStage, blankSetter, blankPart, blankSection}
 use Rattle.amounts.specs.Taking.{shares}
 use Rattle.groups.specs.Tops.{upperParts, lowerParts, UpperShown, LowerShown}
 use Rattle.tiers.specs.Surface.{SectionsShown, WallsShown}
 use Rattle.groups.specs.Blocks.{stagesOf01, settersOf01, partsOf01, sectionsOf01, wallsOf01, StagesRead, SettersRead, PartsRead, SectionsRead, WallsRead}
-use Rattle.reader.specs.Whole.{headOf, Held}
+use Rattle.groups.specs.All.{headOf, Held}
 use Rattle.entries.proofs.Places.{after-bind}
 use Rattle.tiers.proofs.Fills.{filled-most}
 use Rattle.tiers.proofs.Sequence.{pass-on, then-line, then-part, then-parts, parts-done, one-after}

@@ -1,0 +1,54 @@
+-- What the code has when it has read all lines.
+use Prim.Native.Nat.{ℕ, _-_, _≤_}
+use mathlib.Core.Path.{_≡_}
+use mathlib.Core.List.{List, map}
+use lib.ListN.{length, drop, replicate}
+use Rattle.sheet.specs.declared.Head.{Head}
+use Rattle.sheet.specs.declared.Sheet.{Sheet as Sheetˢ}
+use Rattle.sheet.specs.Shown.{Shows}
+use Rattle.lines.specs.Reader.{Sheet, readLines}
+use Rattle.lines.specs.Document01.{document01}
+use Rattle.lines.specs.Rows.{sectionOf, wallOf, firingOf}
+use Rattle.lines.specs.Rules.{Every, sections, stages, walls}
+use Rattle.walls.proofs.Sections.{Distinct}
+use Rattle.walls.proofs.Readings.{Placed}
+use Rattle.entries.specs.declared.Place.{Place}
+use Rattle.groups.specs.declared.tops.Upper.{Upper}
+use Rattle.groups.specs.declared.tops.Lower.{Lower}
+use Rattle.groups.specs.declared.all.Lines.{Lines}
+use Rattle.entries.specs.Place.{After}
+use Rattle.tiers.specs.Stages.{SmallGas}
+use Rattle.blank.specs.Blank.{blankStage, blankSetter, blankPart, blankSection}
+
+abbrev pub headOf : Upper → Lower → Head
+headOf u l = record { firing = u .firing; product = u .product; ambient = u .ambient; fuel = u .fuel; gas = u .gas; moisture = l .moisture; ware = l .ware; water = l .water; clay = l .clay }
+
+-- the counts are within their arrays, beyond which nothing could be shown, and beyond their counts the blocks are blank
+pub record Trimmed (x : Sheetˢ) : Type 0 where
+  pub stages : drop (x .stages .count .0) (x .stages .lines) ≡ replicate (12 - x .stages .count .0) blankStage
+  pub setters : drop (x .setters .count .0) (x .setters .lines) ≡ replicate (32 - x .setters .count .0) blankSetter
+  pub parts : drop (x .parts .count .0) (x .parts .lines) ≡ replicate (32 - x .parts .count .0) blankPart
+  pub sections : drop (x .sections .count .0) (x .sections .lines) ≡ replicate (12 - x .sections .count .0) blankSection
+  pub stagesFit : x .stages .count .0 ≤ 12
+  pub settersFit : x .setters .count .0 ≤ 32
+  pub partsFit : x .parts .count .0 ≤ 32
+  pub sectionsFit : x .sections .count .0 ≤ 12
+
+-- the struct holds what the rows of a sheet say, and its rules of sections and walls were kept
+pub record Held (x : Sheetˢ) (sheet : Sheet) : Type 0 where
+  pub shows : Shows x (firingOf sheet)
+  pub trimmed : Trimmed x
+  pub stagesAre : length (stages sheet) ≡ x .stages .count .0
+  pub sectionsAre : length (sections sheet) ≡ x .sections .count .0
+  pub distinct : Distinct (map sectionOf (sections sheet))
+  pub placed : Every (Placed (map sectionOf (sections sheet))) (map wallOf (walls sheet))
+
+-- what holds of the struct whatever was read
+pub record Sized (x : Sheetˢ) : Type 0 where
+  pub stages : x .stages .count .0 ≤ 12
+  pub sections : x .sections .count .0 ≤ 12
+  pub small : Every SmallGas (x .stages .lines)
+
+pub record LinesRead (s : List ℕ) (start : Place) (r : Lines) : Type 0 where
+  pub after : After s start (readLines document01) (r .place) (Held (r .sheet))
+  pub sized : Sized (r .sheet)
