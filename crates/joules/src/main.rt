@@ -12,7 +12,7 @@ fn show(name: &[u8], heat: Joules) {
     if z < 0 {
         io::write_all(STDOUT_FILENO, b"-");
     }
-    io::print_decimal(STDOUT_FILENO, text::magnitude(z));
+    io::print_decimal(STDOUT_FILENO, pen::magnitude(z));
     io::write_all(STDOUT_FILENO, b"\n");
 }
 

@@ -5,7 +5,7 @@ use mathlib.Core.List.{List}
 use native.Mathlib.Nat.{le-trans, zero-add}
 use native.Mathlib.Omega.{arith}
 use lib.ListN.{length}
-use Rattle.text.specs.Writing.{over, Written}
+use Rattle.pen.specs.Writing.{over, Written}
 use Rattle.lines.specs.Reader as lines
 use Rattle.lines.specs.Reader.{Sheet, Refused, Good, readOf}
 use Rattle.lines.specs.Document01.{document01}

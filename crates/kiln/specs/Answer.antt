@@ -7,7 +7,7 @@ use lib.IntN.{pos}
 use lib.ListN.{length}
 use Rattle.text.specs.Bytes.{bytes}
 use Rattle.text.specs.Decimal.{decimal}
-use Rattle.text.specs.Writing.{over}
+use Rattle.pen.specs.Writing.{over}
 use Rattle.sheet.specs.declared.Refusal.the-variants.{Accepted, NoRoom}
 use Rattle.sheet.specs.Refusals.{number}
 use Rattle.lines.specs.Reader as lines

@@ -2,7 +2,7 @@
 ghost use mathlib.Core.Path.{_≡_};
 ghost use Prim.Native.Nat.{_≤_, _<_};
 ghost use lib.ListN.{length, take};
-ghost use Rattle.text.specs.Writing.{Written};
+ghost use Rattle.pen.specs.Writing.{Written};
 ghost use Rattle.kiln.specs.Answer.{refusedText, printedOf};
 use crate::answered;
 
@@ -12,11 +12,11 @@ fn refusal_text(out: &mut [u8], refusal: u32, line: u32) -> usize
     ensures { λ r. ⌜ Written 0 (refusedText refusal line) (now (out .entry)) (now (out .exit)) r ⌝ }
     ensures { λ r. ⌜ r ≤ 40 ⌝ }
 {
-    let a = text::bytes_at(out, 0, b"refused=");
-    let b = text::number_at(out, a, refusal as i64);
-    let c = text::bytes_at(out, b, b",");
-    let d = text::number_at(out, c, line as i64);
-    text::bytes_at(out, d, b"\n")
+    let a = pen::bytes_at(out, 0, b"refused=");
+    let b = pen::number_at(out, a, refusal as i64);
+    let c = pen::bytes_at(out, b, b",");
+    let d = pen::number_at(out, c, line as i64);
+    pen::bytes_at(out, d, b"\n")
 }
 
 // Puts the whole printed text at the front: the report, or the refusal. The first n bytes of the room that was read

@@ -5,7 +5,7 @@ ghost use mathlib.Core.List.{[]};
 ghost use lib.Dec.{leb};
 ghost use lib.ListN.{length, getD};
 ghost use Rattle.text.specs.Decimal.{line};
-ghost use Rattle.text.specs.Writing.{Written};
+ghost use Rattle.pen.specs.Writing.{Written};
 ghost use Rattle.formulas.specs.Report.{keys, linesText};
 
 // The keys, one after the other, and where each begins.
@@ -42,7 +42,7 @@ fn line_length(i: usize, figure: i64) -> usize
     ensures { λ r. ⌜ r ≤ 30 ⌝ }
 {
     let key = STARTS[i + 1] - STARTS[i];
-    key + text::width(figure) + 2
+    key + pen::width(figure) + 2
 }
 
 // How long the report is; no report is longer than 600 bytes.
@@ -82,7 +82,7 @@ pub fn write(out: &mut [u8], figures: [i64; 20]) -> usize
     while i < 20 {
         let start = starts[i];
         let end = starts[i + 1];
-        at = text::line_at(out, at, &keys[start..end], figures[i]);
+        at = pen::line_at(out, at, &keys[start..end], figures[i]);
         i += 1;
     }
     at

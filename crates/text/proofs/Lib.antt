@@ -1,6 +1,5 @@
 pub mod Scanning
 pub mod Decimal
 pub mod Reading
-pub mod Writing
 pub mod Signed
 pub mod Marked

@@ -1,5 +1,4 @@
 pub mod Bytes
 pub mod Decimal
 pub mod Number
-pub mod Writing
 pub mod Scanning

@@ -1,19 +1,12 @@
-// Numbers and lines as text: reading a number in the sheet's form, writing one into a lent slice, and finding one's way in
-// a line.
+// Numbers and lines as text: reading a number in the sheet's form, and finding one's way in a line. Crate `pen` writes them.
 mod read;
 mod scan;
-mod write;
 
 pub use read::number;
 pub use read::number_within;
 pub use scan::count;
 pub use scan::find;
 pub use scan::starts;
-pub use write::bytes_at;
-pub use write::line_at;
-pub use write::magnitude;
-pub use write::number_at;
-pub use write::width;
 
 // What a text is as a number in the sheet's form.
 pub enum Num {

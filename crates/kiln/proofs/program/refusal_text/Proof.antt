@@ -11,9 +11,9 @@ use mir.Val.{toZ}
 use mir.ValLaws.{toZ-pos}
 use Rattle.text.specs.Bytes.{bytes}
 use Rattle.text.specs.Decimal.{decimal}
-use Rattle.text.specs.Writing.{Written}
+use Rattle.pen.specs.Writing.{Written}
 use Rattle.text.proofs.Decimal.{length-decimal}
-use Rattle.text.proofs.Writing.{next}
+use Rattle.pen.proofs.Writing.{next}
 use Rattle.kiln.specs.Answer.{refusedText}
 use Rattle.kiln.proofs.program.refusal_text.Statement.{statement}
 use Rattle.kiln.proofs.program.refusal_text.Tie as tie

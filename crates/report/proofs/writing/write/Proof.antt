@@ -10,8 +10,8 @@ use mir.Syntax.{w64}
 use mir.Val.{toZ, ofZ}
 use mir.Facts.{toZ-ofZ}
 use Rattle.text.specs.Decimal.{line}
-use Rattle.text.specs.Writing.{Written}
-use Rattle.text.proofs.Writing.{begun, next, length-over}
+use Rattle.pen.specs.Writing.{Written}
+use Rattle.pen.proofs.Writing.{begun, next, length-over}
 use Rattle.formulas.specs.Report.{keys}
 use Rattle.report.proofs.Keys.{key-at, Key, cut}
 use Rattle.report.proofs.Lines.{firstLines, no-lines, one-more, all-lines, not-longer}

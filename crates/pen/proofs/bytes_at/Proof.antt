@@ -1,8 +1,8 @@
 -- `bytes_at` meets its contract: what was written at the front of the part stands at its place in the whole. Assumes nothing.
 use borrow.Author.Needs.{needs}
-use Rattle.text.proofs.Writing.{in-part}
-use Rattle.text.proofs.write.bytes_at.Statement.{statement}
-use Rattle.text.proofs.write.bytes_at.Tie as tie
+use Rattle.pen.proofs.Writing.{in-part}
+use Rattle.pen.proofs.bytes_at.Statement.{statement}
+use Rattle.pen.proofs.bytes_at.Tie as tie
 
 returns : tie.Need-returns
 returns c =

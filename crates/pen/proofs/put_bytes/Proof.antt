@@ -7,10 +7,10 @@ use native.Mathlib.Omega.{arith}
 use lib.ListN.{length, getD, take, length-set}
 use lib.Seq.{take-suc, take-all}
 use borrow.Author.Needs.{needs}
-use Rattle.text.specs.Writing.{Written}
-use Rattle.text.proofs.Writing.{begun, next, one-byte}
-use Rattle.text.proofs.write.put_bytes.Statement.{statement}
-use Rattle.text.proofs.write.put_bytes.Tie as tie
+use Rattle.pen.specs.Writing.{Written}
+use Rattle.pen.proofs.Writing.{begun, next, one-byte}
+use Rattle.pen.proofs.put_bytes.Statement.{statement}
+use Rattle.pen.proofs.put_bytes.Tie as tie
 
 abbrev Inv-loop : tie.InvT-loop
 Inv-loop out₀ src i₀ out i = (i ≤ length src) × Written 0 (take i src) out₀ out i × (length out ≡ length out₀)

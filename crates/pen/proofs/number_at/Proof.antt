@@ -5,12 +5,12 @@ use mathlib.Core.List.{_++_}
 use native.Mathlib.Omega.{arith}
 use lib.ListN.{length}
 use borrow.Author.Needs.{needs}
 use Rattle.text.specs.Bytes.{bytes}
 use Rattle.text.specs.Decimal.{digits, decimal}
-use Rattle.text.proofs.Signed.{minus-text, plain-text}
-use Rattle.text.proofs.Writing.{next}
-use Rattle.text.proofs.write.number_at.Statement.{statement}
-use Rattle.text.proofs.write.number_at.Tie as tie
+use Rattle.pen.proofs.Signed.{minus-text, plain-text}
+use Rattle.pen.proofs.Writing.{next}
+use Rattle.pen.proofs.number_at.Statement.{statement}
+use Rattle.pen.proofs.number_at.Tie as tie
 
 minus : (c : tie.Then1) → decimal (c .before .before .before .args .z) ≡ bytes "-" ++ digits (c .before .magnitude .result)
 minus c = minus-text _ _ (c .before .before .before .fits .z) (c .before .magnitude .ensures) (c .if1 .taken)

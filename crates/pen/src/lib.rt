@@ -1,10 +1,10 @@
-// Writing lines, numbers and bytes into the part of a lent slice that begins at a place.
+// Writing lines, numbers and bytes into the part of a lent slice that begins at a place: their text is what crate `text` says it is.
 ghost use mathlib.Core.Path.{_≡_};
 ghost use Prim.Native.Nat.{_+_, _≤_};
 ghost use lib.ListN.{length};
 ghost use lib.IntN.{natAbs};
 ghost use Rattle.text.specs.Decimal.{digits, decimal, line};
-ghost use Rattle.text.specs.Writing.{Written};
+ghost use Rattle.pen.specs.Writing.{Written};
 
 // A number without its sign; the least i64 has one too.
 pub fn magnitude(z: i64) -> u64

@@ -6,12 +6,12 @@ use Prim.Native.Nat.{ℕ, _+_, _-_, _/_, _%_, _≤_, _<_}
 use native.Mathlib.Omega.{arith}
 use lib.ListN.{length, set, length-set}
 use borrow.Author.Needs.{needs}
 use Rattle.text.specs.Decimal.{digits}
-use Rattle.text.specs.Writing.{over}
-use Rattle.text.proofs.Decimal.{lastDigits, last-none, last-more, last-all, length-last}
-use Rattle.text.proofs.Writing.{over-none, last-first}
-use Rattle.text.proofs.write.put_digits.Statement.{statement}
-use Rattle.text.proofs.write.put_digits.Tie as tie
+use Rattle.pen.specs.Writing.{over}
+use Rattle.pen.proofs.Digits.{lastDigits, last-none, last-more, last-all, length-last}
+use Rattle.pen.proofs.Writing.{over-none, last-first}
+use Rattle.pen.proofs.put_digits.Statement.{statement}
+use Rattle.pen.proofs.put_digits.Tie as tie
 
 abbrev Inv-loop : tie.InvT-loop
 Inv-loop out₀ n k rest₀ i₀ out rest i =

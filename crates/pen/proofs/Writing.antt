@@ -7,7 +7,7 @@ use native.Mathlib.Numerals.{add-one}
 use native.Mathlib.Omega.{arith}
 use lib.ListN.{length, take, drop, set, length-append, length-take, length-drop, take-append-drop, drop-of-length-le}
 use lib.Seq.{take-all, take-at, drop-at, set-split, drop-drop, drop-nil, drop-append-seam, take-append-seam, length-take-le}
-use Rattle.text.specs.Writing.{over, Written}
+use Rattle.pen.specs.Writing.{over, Written}
 
 pub length-over : (at : ℕ) (text old : List ℕ) → at + length text ≤ length old → length (over at text old) ≡ length old
 unfolding over

@@ -6,10 +6,10 @@ use lib.IntN.{ℤ}
 use lib.ListN.{length}
 use mir.Syntax.{w64}
 use mir.ValLaws.{toZ-ofZ}
 use Rattle.text.specs.Decimal.{line}
-use Rattle.text.proofs.Writing.{in-part}
-use Rattle.text.proofs.write.line_at.Statement.{statement}
-use Rattle.text.proofs.write.line_at.Tie as tie
+use Rattle.pen.proofs.Writing.{in-part}
+use Rattle.pen.proofs.line_at.Statement.{statement}
+use Rattle.pen.proofs.line_at.Tie as tie
 
 put-line-requires : tie.Need-put-line-requires
 put-line-requires c κs =

@@ -6,12 +6,12 @@ use lib.ListN.{length}
 use mir.Syntax.{w64}
 use mir.ValLaws.{toZ-ofZ}
 use borrow.Author.Needs.{needs}
 use Rattle.text.specs.Decimal.{decimal}
 use Rattle.text.proofs.Decimal.{length-line, line-pieces}
 use Rattle.text.proofs.Signed.{W}
-use Rattle.text.proofs.Writing.{next}
-use Rattle.text.proofs.write.put_line.Statement.{statement}
-use Rattle.text.proofs.write.put_line.Tie as tie
+use Rattle.pen.proofs.Writing.{next}
+use Rattle.pen.proofs.put_line.Statement.{statement}
+use Rattle.pen.proofs.put_line.Tie as tie
 
 room : (s : tie.Start) → length (s .args .key .now) + length (decimal (W (s .args .z))) + 2 ≤ length (s .args .out .now)
 room s = rw (toZ-ofZ w64 (s .args .z) (s .fits .z)) (omega (arith, length-line (s .args .key .now) (s .args .z)))

@@ -6,10 +6,10 @@ use native.Mathlib.Nat.{pow-suc}
 use native.Mathlib.Numerals.{add-one}
 use native.Mathlib.Omega.{arith}
 use lib.ListN.{length}
 use Rattle.text.specs.Decimal.{digits}
 use Rattle.text.proofs.Decimal.{length-digits, digits-above, leads}
-use Rattle.text.proofs.write.digit_count.Statement.{statement}
-use Rattle.text.proofs.write.digit_count.Tie as tie
+use Rattle.pen.proofs.digit_count.Statement.{statement}
+use Rattle.pen.proofs.digit_count.Tie as tie
 
 abbrev Inv-loop : tie.InvT-loop
 Inv-loop n most k₀ power₀ k power = (power * 10 ≡ 10 ^ k) × (k ≤ length (digits n))

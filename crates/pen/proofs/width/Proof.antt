@@ -3,10 +3,10 @@ use mathlib.Core.Path.{ap}
 use native.Mathlib.Omega.{arith}
 use lib.ListN.{length}
 use borrow.Author.Needs.{needs}
 use Rattle.text.proofs.Decimal.{length-digits}
-use Rattle.text.proofs.Signed.{minus-text, plain-text}
-use Rattle.text.proofs.write.width.Statement.{statement}
-use Rattle.text.proofs.write.width.Tie as tie
+use Rattle.pen.proofs.Signed.{minus-text, plain-text}
+use Rattle.pen.proofs.width.Statement.{statement}
+use Rattle.pen.proofs.width.Tie as tie
 
 add-result : tie.Need-add-result
 add-result c =
