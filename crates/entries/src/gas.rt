@@ -36,7 +36,7 @@ fn weighed(gas: [Share; 13], weights: [i64; 13]) -> Tally
     while i < 13 {
         let x = gas[i];
         let w = weights[i];
-        sum = Tally(sum.0 + w * x.0);
+        sum = Tally(sum.0 + w * x.0 as i64);
         i += 1;
     }
     sum

@@ -76,7 +76,7 @@ fn dry_rate(burning: Burning, excess: ExcessAir) -> DryRate
     requires { ⌜ DryFits (excess .0) (burning .dry) (burning .air) ⌝ }
     ensures { λ r. ⌜ r .0 ≡ burning .dry *ℤ pos 100000 +ℤ (excess .0 -ℤ pos 210) *ℤ burning .air ⌝ }
 {
-    DryRate(burning.dry * 100_000 + (excess.0 - 210) * burning.air)
+    DryRate(burning.dry * 100_000 + (excess.0 as i64 - 210) * burning.air)
 }
 
 // The dry flue gas of all fuel of a stage.
@@ -84,7 +84,7 @@ fn dry_exact(gas: CubicMetres, rate: DryRate) -> DryExact
     requires { ⌜ SFits w64 (gas .0 *ℤ rate .0) ⌝ }
     ensures { λ r. ⌜ r .0 ≡ gas .0 *ℤ rate .0 ⌝ }
 {
-    DryExact(gas.0 * rate.0)
+    DryExact(gas.0 as i64 * rate.0)
 }
 
 // The dry flue gas of a stage.
@@ -101,7 +101,8 @@ fn rate_exact(burning: Burning, moisture: Moisture, stage: Stage) -> RateExact
     ensures { λ r. ⌜ r .0 ≡ pos 1293 *ℤ stage .excess .0 *ℤ burning .air *ℤ moisture .0 *ℤ pos 56 +ℤ burning .vapour *ℤ pos 45000000000000 ⌝ }
 {
     RateExact(
-        1293 * stage.excess.0 * burning.air * moisture.0 * 56 + burning.vapour * 45_000_000_000_000,
+        1293 * stage.excess.0 as i64 * burning.air * moisture.0 as i64 * 56
+            + burning.vapour * 45_000_000_000_000,
     )
 }
 
@@ -118,7 +119,7 @@ fn vapour_exact(rate: VapourRate, gas: CubicMetres) -> VapourExact
     requires { ⌜ SFits w64 (rate .0 *ℤ gas .0) ⌝ }
     ensures { λ r. ⌜ r .0 ≡ rate .0 *ℤ gas .0 ⌝ }
 {
-    VapourExact(rate.0 * gas.0)
+    VapourExact(rate.0 * gas.0 as i64)
 }
 
 // The vapour of a stage.
@@ -168,7 +169,7 @@ fn unburnt(volume: DryFlue, co: CarbonMonoxide) -> Microjoules
     requires { ⌜ ProductFits (volume .0) (co .0) (pos 12750) ⌝ }
     ensures { λ r. ⌜ r .0 ≡ volume .0 *ℤ co .0 *ℤ pos 12750 ⌝ }
 {
-    Microjoules(volume.0 * co.0 * 12_750)
+    Microjoules(volume.0 * co.0 as i64 * 12_750)
 }
 
 // Formula 23: the heat that a stage's carbon monoxide would have given.

@@ -1,17 +1,17 @@
 -- Sums over the first lines of an array, one line more at a time. Assumes nothing.
-use Prim.Native.Nat.{ℕ, zero, suc, _+_, _*_, _≤_, _<_, min}
+use Prim.Native.Nat.{ℕ, zero, suc, _+_, _*_, _^_, _≤_, _<_, min}
 use mathlib.Core.Path.{_≡_, refl, sym, ap, _∙_, subst}
 use mathlib.Core.List.{List, [], _∷_, map}
 use native.Mathlib.Nat.{le-trans, mul-le-mul-right, lt-of-le-of-lt, le-of-suc-le-suc, not-suc-le-zero}
 use native.Mathlib.Decide.{decLe}
 use native.Mathlib.Numerals.{add-one}
 use native.Mathlib.Omega.{arith}
-use lib.Dec.{T, leb, leb→le, lit<}
+use lib.Dec.{T, ltb, ltb→lt}
 use lib.IntN.{ℤ, pos, natAbs, _+ℤ_}
 use lib.ListN.{length, getD, take, length-map}
 use lib.Seq.{take-all, take-length}
-use mir.Syntax.{w64}
-use mir.Val.{SFits}
+use mir.Syntax.{Width}
+use mir.Val.{SFits, hbits}
 use Rattle.arith.proofs.Ring.{v, #, _⊕_, _⊗_, ring}
 use Rattle.arith.proofs.Order.{bound-add, sfits-abs}
 use Rattle.sheet.specs.declared.Stage.{Stage as Stageˢ}
@@ -74,10 +74,10 @@ module _ {k B i : ℕ} {m n x y : ℤ} (p : Running k B i m x) (q : Figure k B n
   pub more : Running k B (i + 1) (m +ℤ n) (x +ℤ y)
   more = record { is = plus (p .is) (q .is); size = one-more }
 
-  pub more-fits : (most : ℕ) → i < most → T (leb (most * B) 9223372036854775807) → SFits w64 (m +ℤ n)
-  more-fits most h t =
+  pub more-fits : {w : Width} (most : ℕ) → i < most → T (ltb (most * B) (2 ^ hbits w)) → SFits w (m +ℤ n)
+  more-fits {w} most h t =
       let fewer : i + 1 ≤ most = omega arith in
-      sfits-abs (lt-of-le-of-lt (le-trans one-more (le-trans (mul-le-mul-right B fewer) (leb→le _ _ t))) (lit< tt))
+      sfits-abs (lt-of-le-of-lt (le-trans one-more (mul-le-mul-right B fewer)) (ltb→lt _ (2 ^ hbits w) t))
 
 -- at most so many in all
 pub at-most : {k B i : ℕ} {n x : ℤ} (most : ℕ) → i ≤ most → Running k B i n x → Figure k (most * B) n x

@@ -3,7 +3,7 @@ pub mod mixture;
 
 ghost use mathlib.Core.Path.{_≡_};
 ghost use lib.IntN.{ℤ, pos, _+ℤ_, _*ℤ_};
-ghost use mir.Syntax.{w64};
+ghost use mir.Syntax.{w32};
 ghost use mir.Val.{SFits};
 ghost use Rattle.sheet.specs.Firing.{Firing};
 ghost use Rattle.lines.specs.Rules.{Every};
@@ -30,7 +30,7 @@ pub struct MixedHeat(pub i64);
 
 // The gas of one stage more.
 fn more(sum: GasTotal, gas: CubicMetres) -> GasTotal
-    requires { ⌜ SFits w64 (sum .0 +ℤ gas .0) ⌝ }
+    requires { ⌜ SFits w32 (sum .0 +ℤ gas .0) ⌝ }
     ensures { λ r. ⌜ r .0 ≡ sum .0 +ℤ gas .0 ⌝ }
 {
     GasTotal(sum.0 + gas.0)
@@ -56,7 +56,7 @@ pub fn q1(gas: GasTotal, heating: HeatingValue) -> Joules
     requires { ⌜ FuelIn (gas .0) (heating .0) ⌝ }
     ensures { λ r. ⌜ ((f : Firing) → totalGas (f .stages) ≡ gas .0 → f .fuel .heating ≡ heating .0 → Figure joule 2600000000000 (r .0) (q1 f paper)) ⌝ }
 {
-    Joules(gas.0 * heating.0 * 100)
+    Joules(gas.0 as i64 * heating.0 as i64 * 100)
 }
 
 // Formula 4, on a straight line between 0 and 100 °C.
@@ -64,7 +64,7 @@ fn mixed_heat(warmth: Warmth, at: Degrees) -> MixedHeat
     requires { ⌜ MixedFits (warmth .cold) (warmth .rise) (at .0) ⌝ }
     ensures { λ r. ⌜ r .0 ≡ warmth .cold *ℤ pos 1000 +ℤ warmth .rise *ℤ at .0 ⌝ }
 {
-    MixedHeat(warmth.cold * 1000 + warmth.rise * at.0)
+    MixedHeat(warmth.cold * 1000 + warmth.rise * at.0 as i64)
 }
 
 // Formula 2 before it is rounded.
@@ -72,7 +72,7 @@ fn brought(gas: GasTotal, c: MixedHeat, rise: Rise) -> Nanojoules
     requires { ⌜ ProductFits (gas .0) (c .0) (rise .0) ⌝ }
     ensures { λ r. ⌜ r .0 ≡ gas .0 *ℤ c .0 *ℤ rise .0 ⌝ }
 {
-    Nanojoules(gas.0 * c.0 * rise.0)
+    Nanojoules(gas.0 as i64 * c.0 * rise.0)
 }
 
 // The fuel's heat above the base temperature.

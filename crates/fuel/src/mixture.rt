@@ -118,9 +118,10 @@ fn warmer(sum: Warmth, kind: Kind, share: Share) -> Warmth
     requires { ⌜ WarmthFits sum kind (share .0) ⌝ }
     ensures { λ r. ⌜ Warmer sum kind (share .0) r ⌝ }
 {
+    let hundredths = share.0 as i64;
     Warmth {
-        cold: sum.cold + kind.cold * share.0,
-        rise: sum.rise + (kind.hot - kind.cold) * share.0,
+        cold: sum.cold + kind.cold * hundredths,
+        rise: sum.rise + (kind.hot - kind.cold) * hundredths,
     }
 }
 
@@ -143,10 +144,11 @@ fn brighter(sum: Burning, kind: Kind, share: Share) -> Burning
     requires { ⌜ BurningFits sum kind (share .0) ⌝ }
     ensures { λ r. ⌜ Brighter sum kind (share .0) r ⌝ }
 {
+    let hundredths = share.0 as i64;
     Burning {
-        air: sum.air + kind.air * share.0,
-        dry: sum.dry + kind.dry * share.0,
-        vapour: sum.vapour + kind.vapour * share.0,
+        air: sum.air + kind.air * hundredths,
+        dry: sum.dry + kind.dry * hundredths,
+        vapour: sum.vapour + kind.vapour * hundredths,
     }
 }
 

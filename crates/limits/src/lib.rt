@@ -10,7 +10,7 @@ pub struct Number(pub i64);
 
 // A number within its limits, and the first fault, 0 for none.
 pub struct MeasuredRead {
-    pub value: i64,
+    pub value: i32,
     pub fault: usize,
 }
 
@@ -28,13 +28,13 @@ fn first_fault(fault: usize, field: usize) -> usize
 }
 
 // The work of every constructor of a measured quantity.
-pub fn measured(v: Number, least: i64, greatest: i64, fault: usize, field: usize) -> MeasuredRead
+pub fn measured(v: Number, least: i32, greatest: i32, fault: usize, field: usize) -> MeasuredRead
     ensures { λ r. ⌜ Measured least greatest (v .0) fault field (r .value) (r .fault) ⌝ }
 {
     let given = v.0;
-    if least <= given && given <= greatest {
+    if least as i64 <= given && given <= greatest as i64 {
         return MeasuredRead {
-            value: given,
+            value: given as i32,
             fault,
         };
     }

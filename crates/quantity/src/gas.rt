@@ -4,7 +4,7 @@ use limits::Number;
 use limits::measured;
 
 // The share of one gas in the fuel, in 0.01 %.
-pub struct Share(pub i64);
+pub struct Share(pub i32);
 
 pub struct ShareRead {
     pub value: Share,
@@ -12,9 +12,9 @@ pub struct ShareRead {
 }
 
 impl Share {
-    pub const LEAST: i64 = 0;
+    pub const LEAST: i32 = 0;
 
-    pub const GREATEST: i64 = 10_000;
+    pub const GREATEST: i32 = 10_000;
 
     // Checks one of the thirteen shares of the line `gas`.
     pub fn checked(v: Number, fault: usize, field: usize) -> ShareRead
@@ -29,7 +29,7 @@ impl Share {
 }
 
 // The moisture X of the air, in 0.0001 kilograms per kilogram.
-pub struct Moisture(pub i64);
+pub struct Moisture(pub i32);
 
 pub struct MoistureRead {
     pub value: Moisture,
@@ -37,9 +37,9 @@ pub struct MoistureRead {
 }
 
 impl Moisture {
-    pub const LEAST: i64 = 0;
+    pub const LEAST: i32 = 0;
 
-    pub const GREATEST: i64 = 500;
+    pub const GREATEST: i32 = 500;
 
     // Checks the field of the line `air`.
     pub fn checked(v: Number, fault: usize, field: usize) -> MoistureRead
@@ -54,7 +54,7 @@ impl Moisture {
 }
 
 // The gas that a stage burns, in tenths of a cubic metre.
-pub struct CubicMetres(pub i64);
+pub struct CubicMetres(pub i32);
 
 pub struct CubicMetresRead {
     pub value: CubicMetres,
@@ -62,9 +62,9 @@ pub struct CubicMetresRead {
 }
 
 impl CubicMetres {
-    pub const LEAST: i64 = 0;
+    pub const LEAST: i32 = 0;
 
-    pub const GREATEST: i64 = 200_000;
+    pub const GREATEST: i32 = 200_000;
 
     // Checks the gas of a line `stage`.
     pub fn checked(v: Number, fault: usize, field: usize) -> CubicMetresRead
@@ -79,7 +79,7 @@ impl CubicMetres {
 }
 
 // The gas that all stages burn, in tenths of a cubic metre.
-pub struct GasTotal(pub i64);
+pub struct GasTotal(pub i32);
 
 pub struct GasTotalRead {
     pub value: GasTotal,
@@ -87,9 +87,9 @@ pub struct GasTotalRead {
 }
 
 impl GasTotal {
-    pub const LEAST: i64 = 100;
+    pub const LEAST: i32 = 100;
 
-    pub const GREATEST: i64 = 200_000;
+    pub const GREATEST: i32 = 200_000;
 
     // Checks the sum of the gas of the lines `stage`.
     pub fn checked(v: Number, fault: usize, field: usize) -> GasTotalRead
@@ -104,7 +104,7 @@ impl GasTotal {
 }
 
 // Air for each part of theoretical air, in thousandths.
-pub struct ExcessAir(pub i64);
+pub struct ExcessAir(pub i32);
 
 pub struct ExcessAirRead {
     pub value: ExcessAir,
@@ -112,9 +112,9 @@ pub struct ExcessAirRead {
 }
 
 impl ExcessAir {
-    pub const LEAST: i64 = 1_000;
+    pub const LEAST: i32 = 1_000;
 
-    pub const GREATEST: i64 = 5_000;
+    pub const GREATEST: i32 = 5_000;
 
     // Checks the excess air of a line `stage`.
     pub fn checked(v: Number, fault: usize, field: usize) -> ExcessAirRead
@@ -129,7 +129,7 @@ impl ExcessAir {
 }
 
 // Carbon monoxide in the dry flue gas, in 0.01 %.
-pub struct CarbonMonoxide(pub i64);
+pub struct CarbonMonoxide(pub i32);
 
 pub struct CarbonMonoxideRead {
     pub value: CarbonMonoxide,
@@ -137,9 +137,9 @@ pub struct CarbonMonoxideRead {
 }
 
 impl CarbonMonoxide {
-    pub const LEAST: i64 = 0;
+    pub const LEAST: i32 = 0;
 
-    pub const GREATEST: i64 = 1_000;
+    pub const GREATEST: i32 = 1_000;
 
     // Checks the carbon monoxide of a line `stage`.
     pub fn checked(v: Number, fault: usize, field: usize) -> CarbonMonoxideRead

@@ -8,7 +8,7 @@ use limits::Number;
 use limits::measured;
 
 // The heat in the fuel, in kilojoules per cubic metre.
-pub struct HeatingValue(pub i64);
+pub struct HeatingValue(pub i32);
 
 pub struct HeatingValueRead {
     pub value: HeatingValue,
@@ -16,9 +16,9 @@ pub struct HeatingValueRead {
 }
 
 impl HeatingValue {
-    pub const LEAST: i64 = 3_000;
+    pub const LEAST: i32 = 3_000;
 
-    pub const GREATEST: i64 = 130_000;
+    pub const GREATEST: i32 = 130_000;
 
     // Checks the heating value of the line `fuel`.
     pub fn checked(v: Number, fault: usize, field: usize) -> HeatingValueRead
@@ -33,7 +33,7 @@ impl HeatingValue {
 }
 
 // The specific heat c, in 0.0001 kilojoules per kilogram and degree.
-pub struct SpecificHeat(pub i64);
+pub struct SpecificHeat(pub i32);
 
 pub struct SpecificHeatRead {
     pub value: SpecificHeat,
@@ -41,9 +41,9 @@ pub struct SpecificHeatRead {
 }
 
 impl SpecificHeat {
-    pub const LEAST: i64 = 0;
+    pub const LEAST: i32 = 0;
 
-    pub const GREATEST: i64 = 100_000;
+    pub const GREATEST: i32 = 100_000;
 
     // Checks c of a line `ware`, `setter` or `part`.
     pub fn checked(v: Number, fault: usize, field: usize) -> SpecificHeatRead

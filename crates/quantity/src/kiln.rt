@@ -30,7 +30,7 @@ impl StageNumber {
 }
 
 // How long a stage lasts, in minutes.
-pub struct Minutes(pub i64);
+pub struct Minutes(pub i32);
 
 pub struct MinutesRead {
     pub value: Minutes,
@@ -38,9 +38,9 @@ pub struct MinutesRead {
 }
 
 impl Minutes {
-    pub const LEAST: i64 = 1;
+    pub const LEAST: i32 = 1;
 
-    pub const GREATEST: i64 = 2_880;
+    pub const GREATEST: i32 = 2_880;
 
     // Checks the minutes of a line `stage`.
     pub fn checked(v: Number, fault: usize, field: usize) -> MinutesRead
@@ -111,7 +111,7 @@ impl Place {
 }
 
 // The surface of a section, in 0.01 square metres.
-pub struct Area(pub i64);
+pub struct Area(pub i32);
 
 pub struct AreaRead {
     pub value: Area,
@@ -119,9 +119,9 @@ pub struct AreaRead {
 }
 
 impl Area {
-    pub const LEAST: i64 = 1;
+    pub const LEAST: i32 = 1;
 
-    pub const GREATEST: i64 = 20_000;
+    pub const GREATEST: i32 = 20_000;
 
     // Checks the area of a line `section`.
     pub fn checked(v: Number, fault: usize, field: usize) -> AreaRead
@@ -136,7 +136,7 @@ impl Area {
 }
 
 // A material by its code in table A.2, or 0 where the sheet gives c.
-pub struct Material(pub usize);
+pub struct Material(pub u32);
 
 pub struct MaterialRead {
     pub value: Material,
@@ -154,7 +154,7 @@ impl Material {
     {
         let read = counted(v, Material::LEAST, Material::GREATEST, fault, field);
         MaterialRead {
-            value: Material(read.count),
+            value: Material(read.count as u32),
             fault: read.fault,
         }
     }

@@ -4,7 +4,7 @@ use limits::Number;
 use limits::measured;
 
 // The fired ware of a firing, in tenths of a kilogram.
-pub struct Product(pub i64);
+pub struct Product(pub i32);
 
 pub struct ProductRead {
     pub value: Product,
@@ -12,9 +12,9 @@ pub struct ProductRead {
 }
 
 impl Product {
-    pub const LEAST: i64 = 1_000;
+    pub const LEAST: i32 = 1_000;
 
-    pub const GREATEST: i64 = 1_000_000;
+    pub const GREATEST: i32 = 1_000_000;
 
     // Checks the field of the line `product`.
     pub fn checked(v: Number, fault: usize, field: usize) -> ProductRead
@@ -29,7 +29,7 @@ impl Product {
 }
 
 // A mass, in tenths of a kilogram.
-pub struct Kilos(pub i64);
+pub struct Kilos(pub i32);
 
 pub struct KilosRead {
     pub value: Kilos,
@@ -37,9 +37,9 @@ pub struct KilosRead {
 }
 
 impl Kilos {
-    pub const LEAST: i64 = 0;
+    pub const LEAST: i32 = 0;
 
-    pub const GREATEST: i64 = 1_000_000;
+    pub const GREATEST: i32 = 1_000_000;
 
     // Checks a mass of a line `ware`, `water`, `clay`, `setter` or `part`.
     pub fn checked(v: Number, fault: usize, field: usize) -> KilosRead

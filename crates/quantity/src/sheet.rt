@@ -30,7 +30,7 @@ impl Edition {
 }
 
 // The number that a firing goes by.
-pub struct FiringNumber(pub i64);
+pub struct FiringNumber(pub i32);
 
 pub struct FiringNumberRead {
     pub value: FiringNumber,
@@ -38,9 +38,9 @@ pub struct FiringNumberRead {
 }
 
 impl FiringNumber {
-    pub const LEAST: i64 = 1;
+    pub const LEAST: i32 = 1;
 
-    pub const GREATEST: i64 = 999_999_999;
+    pub const GREATEST: i32 = 999_999_999;
 
     // Checks the field of the line `firing`.
     pub fn checked(v: Number, fault: usize, field: usize) -> FiringNumberRead

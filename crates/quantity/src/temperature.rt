@@ -8,7 +8,7 @@ use limits::Number;
 use limits::measured;
 
 // A temperature, in tenths of a degree Celsius.
-pub struct Degrees(pub i64);
+pub struct Degrees(pub i32);
 
 pub struct DegreesRead {
     pub value: Degrees,
@@ -16,9 +16,9 @@ pub struct DegreesRead {
 }
 
 impl Degrees {
-    pub const LEAST: i64 = -200;
+    pub const LEAST: i32 = -200;
 
-    pub const GREATEST: i64 = 18_000;
+    pub const GREATEST: i32 = 18_000;
 
     // Checks a temperature of a line `ware`, `setter` or `part`.
     pub fn checked(v: Number, fault: usize, field: usize) -> DegreesRead
@@ -36,12 +36,12 @@ impl Degrees {
         requires { ⌜ SFits w64 (self .0 -ℤ base .0) ⌝ }
         ensures { λ r. ⌜ r .0 ≡ self .0 -ℤ base .0 ⌝ }
     {
-        Rise(self.0 - base.0)
+        Rise(self.0 as i64 - base.0 as i64)
     }
 }
 
 // The base temperature t, in tenths of a degree Celsius.
-pub struct Ambient(pub i64);
+pub struct Ambient(pub i32);
 
 pub struct AmbientRead {
     pub value: Ambient,
@@ -49,9 +49,9 @@ pub struct AmbientRead {
 }
 
 impl Ambient {
-    pub const LEAST: i64 = -200;
+    pub const LEAST: i32 = -200;
 
-    pub const GREATEST: i64 = 500;
+    pub const GREATEST: i32 = 500;
 
     // Checks the field of the line `ambient`.
     pub fn checked(v: Number, fault: usize, field: usize) -> AmbientRead
@@ -73,7 +73,7 @@ impl Ambient {
 }
 
 // The temperature of the fuel, in tenths of a degree Celsius.
-pub struct FuelTemperature(pub i64);
+pub struct FuelTemperature(pub i32);
 
 pub struct FuelTemperatureRead {
     pub value: FuelTemperature,
@@ -81,9 +81,9 @@ pub struct FuelTemperatureRead {
 }
 
 impl FuelTemperature {
-    pub const LEAST: i64 = 0;
+    pub const LEAST: i32 = 0;
 
-    pub const GREATEST: i64 = 600;
+    pub const GREATEST: i32 = 600;
 
     // Checks the temperature of the line `fuel`.
     pub fn checked(v: Number, fault: usize, field: usize) -> FuelTemperatureRead
@@ -111,7 +111,7 @@ impl FuelTemperature {
 }
 
 // The temperature of the flue gas, in tenths of a degree Celsius.
-pub struct FlueTemperature(pub i64);
+pub struct FlueTemperature(pub i32);
 
 pub struct FlueTemperatureRead {
     pub value: FlueTemperature,
@@ -119,9 +119,9 @@ pub struct FlueTemperatureRead {
 }
 
 impl FlueTemperature {
-    pub const LEAST: i64 = 0;
+    pub const LEAST: i32 = 0;
 
-    pub const GREATEST: i64 = 12_000;
+    pub const GREATEST: i32 = 12_000;
 
     // Checks the flue temperature of a line `water` or `stage`.
     pub fn checked(v: Number, fault: usize, field: usize) -> FlueTemperatureRead
@@ -158,9 +158,9 @@ pub struct SurfaceTemperatureRead {
 }
 
 impl SurfaceTemperature {
-    pub const LEAST: i64 = -200;
+    pub const LEAST: i32 = -200;
 
-    pub const GREATEST: i64 = 3_000;
+    pub const GREATEST: i32 = 3_000;
 
     // Checks the surface of a line `wall`.
     pub fn checked(v: Number, fault: usize, field: usize) -> SurfaceTemperatureRead
@@ -183,7 +183,7 @@ impl SurfaceTemperature {
     pub fn degrees(self) -> Degrees
         ensures { λ r. ⌜ r .0 ≡ self .0 ⌝ }
     {
-        Degrees(self.0 as i64)
+        Degrees(self.0 as i32)
     }
 
     // How far the surface lies above the air near it, Δ of the surface formulas.
@@ -204,9 +204,9 @@ pub struct NearAirRead {
 }
 
 impl NearAir {
-    pub const LEAST: i64 = -200;
+    pub const LEAST: i32 = -200;
 
-    pub const GREATEST: i64 = 500;
+    pub const GREATEST: i32 = 500;
 
     // Checks the air of a line `wall`.
     pub fn checked(v: Number, fault: usize, field: usize) -> NearAirRead
@@ -223,7 +223,7 @@ impl NearAir {
     pub fn degrees(self) -> Degrees
         ensures { λ r. ⌜ r .0 ≡ self .0 ⌝ }
     {
-        Degrees(self.0 as i64)
+        Degrees(self.0 as i32)
     }
 }
 

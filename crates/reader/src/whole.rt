@@ -56,7 +56,7 @@ fn gas_total(lines: [Stage; 12], count: usize) -> Number
     while i < count {
         let x = lines[i];
         let gas = x.gas;
-        total = Number(total.0 + gas.0);
+        total = Number(total.0 + gas.0 as i64);
         i += 1;
     }
     total

@@ -6,7 +6,7 @@ use native.Mathlib.Nat.{mul-comm}
 use lib.Dec.{T, leb, lit<}
 use lib.IntN.{ℤ, pos, natAbs, _*ℤ_}
 use lib.Signed.{_<ℤ_, ltZ-yes}
-use mir.Syntax.{w64}
+use mir.Syntax.{w32, w64}
 use mir.Val.{SFits, toZ, ofZ}
 use mir.Facts.{toZ-ofZ}
 use Rattle.arith.specs.Nearest.{nearest}
@@ -17,6 +17,7 @@ use Rattle.arith.proofs.Order.{abs-mul}
 use Rattle.arith.proofs.NearestLaws.{nearest-scaled, nearest-exact}
 use Rattle.arith.proofs.Span.{far}
 use Rattle.arith.proofs.Machine.{raw, num, _⟨*⟩_, span}
+use Rattle.quantity.proofs.Casts.{widened}
 use Rattle.sheet.specs.Firing.{Firing}
 use Rattle.lines.specs.Limits.{Limits}
 use Rattle.formulas.specs.Rounding.{Rounding, paper}
@@ -61,9 +62,9 @@ module _ {f : Firing} {number product : ℤ} {heats : Heats} (p : Found f number
   pub of-fuel-can : {B : ℕ} {n x : ℤ} (h : Figure joule B n x) → T (leb (far (span (raw 0 ⟨*⟩ num (pos 10000)) (within (h .size) ∷ []))) 9223372036854775807) → Divides 10000 n (heats .income .q1 .0)
   of-fuel-can h t = record { fits = fit (within (h .size) ∷ []) (raw 0 ⟨*⟩ num (pos 10000)) t; some = fuel-some (p .limits) (p .balanced .income .q1) }
 
-  pub number-is : SFits w64 number → toZ w64 (ofZ w64 number) ≡ printed f number′
+  pub number-is : SFits w32 number → toZ w64 (ofZ w64 (toZ w32 (ofZ w32 number))) ≡ printed f number′
   unfolding printed
-  number-is fits = toZ-ofZ fits ∙ p .is-number ∙ sym (nearest-exact (f .number) (lit< tt)) ∙ ap (λ (z : ℤ). nearest z 1) (one-*ℤ (f .number))
+  number-is fits = widened fits ∙ p .is-number ∙ sym (nearest-exact (f .number) (lit< tt)) ∙ ap (λ (z : ℤ). nearest z 1) (one-*ℤ (f .number))
 
   pub per-tonne-is : (q : Firing → Rounding → ℤ) {B : ℕ} {n r : ℤ} → Heat q f B n → SFits w64 r → r ≡ nearest (n *ℤ pos 10) (natAbs product) → toZ w64 (ofZ w64 r) ≡ printed f (heat q)
   unfolding printed

@@ -19,7 +19,7 @@ pub fn per_tonne(heat: Joules, product: Product) -> i64
     requires { ⌜ Divides 10 (heat .0) (product .0) ⌝ }
     ensures { λ r. ⌜ r ≡ nearest (heat .0 *ℤ pos 10) (natAbs (product .0)) ⌝ }
 {
-    nearest(heat.0 * 10, product.0)
+    nearest(heat.0 * 10, product.0 as i64)
 }
 
 // A heat over the fuel's, in 0.01 %.
@@ -39,7 +39,7 @@ fn listed(number: FiringNumber, product: Product, heats: Heats) -> [i64; 20]
     let solids = heats.solids;
     let gases = heats.gases;
     [
-        number.0,
+        number.0 as i64,
         per_tonne(income.q1, product),
         per_tonne(income.q2, product),
         per_tonne(income.q3, product),

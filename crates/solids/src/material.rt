@@ -53,7 +53,7 @@ fn row(material: Material, at: Degrees) -> usize
     requires { ⌜ material .0 ≤ 18 ⌝ }
     ensures { λ r. ⌜ RowIs (material .0) (at .0) r ⌝ }
 {
-    let code = material.0;
+    let code = material.0 as usize;
     match code {
         1 | 2 | 15 => 1,
         3 => { if at.0 <= 8000 { 3 } else { 19 } }
@@ -67,7 +67,7 @@ fn straight(line: Line, at: Degrees) -> Capacity
     requires { ⌜ StraightFits (line .a) (line .b) (at .0) ⌝ }
     ensures { λ r. ⌜ r .0 ≡ line .a *ℤ pos 100000 +ℤ line .b *ℤ at .0 ⌝ }
 {
-    Capacity(line.a * 100_000 + line.b * at.0)
+    Capacity(line.a * 100_000 + line.b * at.0 as i64)
 }
 
 // The specific heat that the sheet gives.
@@ -75,7 +75,7 @@ fn given(c: SpecificHeat) -> Capacity
     requires { ⌜ SFits w64 (c .0 *ℤ pos 1000) ⌝ }
     ensures { λ r. ⌜ r .0 ≡ c .0 *ℤ pos 1000 ⌝ }
 {
-    Capacity(c.0 * 1000)
+    Capacity(c.0 as i64 * 1000)
 }
 
 // The heat of a mass that grows warmer.
@@ -83,7 +83,7 @@ fn stored(mass: Kilos, c: Capacity, rise: Rise) -> Microjoules
     requires { ⌜ ProductFits (mass .0) (c .0) (rise .0) ⌝ }
     ensures { λ r. ⌜ r .0 ≡ mass .0 *ℤ c .0 *ℤ rise .0 ⌝ }
 {
-    Microjoules(mass.0 * c.0 * rise.0)
+    Microjoules(mass.0 as i64 * c.0 * rise.0)
 }
 
 // The specific heat of a thing at a temperature.

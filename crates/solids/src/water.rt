@@ -24,7 +24,7 @@ fn steam(water: Water, rise: Rise) -> Decijoules
     requires { ⌜ SteamFits (water .adsorbed .0) (water .crystal .0) (rise .0) ⌝ }
     ensures { λ r. ⌜ r .0 ≡ (water .adsorbed .0 +ℤ water .crystal .0) *ℤ (pos 2490000 +ℤ pos 193 *ℤ rise .0) ⌝ }
 {
-    Decijoules((water.adsorbed.0 + water.crystal.0) * (2_490_000 + 193 * rise.0))
+    Decijoules((water.adsorbed.0 as i64 + water.crystal.0 as i64) * (2_490_000 + 193 * rise.0))
 }
 
 // The heat that leaves with the water.
@@ -40,7 +40,7 @@ pub fn x3(clay: Kilos) -> Joules
     requires { ⌜ In mass (clay .0) ⌝ }
     ensures { λ r. ⌜ ((f : Firing) → f .clay ≡ clay .0 → Figure joule 108800000000 (r .0) (x3 f paper)) ⌝ }
 {
-    Joules(clay.0 * 108_800)
+    Joules(clay.0 as i64 * 108_800)
 }
 
 // Formula 33 for a kilogram: to 100 °C, to steam, and the steam on by so many °C.
@@ -48,7 +48,7 @@ fn boiled(entry: Degrees, on: i64) -> Boiling
     requires { ⌜ BoiledFits (entry .0) on ⌝ }
     ensures { λ r. ⌜ r .0 ≡ (pos 1000 -ℤ entry .0) *ℤ pos 418 +ℤ (pos 2260000 +ℤ on *ℤ pos 1930) ⌝ }
 {
-    Boiling((1000 - entry.0) * 418 + (2_260_000 + on * 1930))
+    Boiling((1000 - entry.0 as i64) * 418 + (2_260_000 + on * 1930))
 }
 
 // Both waters, each with its own heat of boiling.
@@ -56,7 +56,7 @@ fn two_waters(water: Water, adsorbed: Boiling, crystal: Boiling) -> Decijoules
     requires { ⌜ TwoWatersFits (water .adsorbed .0) (adsorbed .0) (water .crystal .0) (crystal .0) ⌝ }
     ensures { λ r. ⌜ r .0 ≡ water .adsorbed .0 *ℤ adsorbed .0 +ℤ water .crystal .0 *ℤ crystal .0 ⌝ }
 {
-    Decijoules(water.adsorbed.0 * adsorbed.0 + water.crystal.0 * crystal.0)
+    Decijoules(water.adsorbed.0 as i64 * adsorbed.0 + water.crystal.0 as i64 * crystal.0)
 }
 
 // The part of the useful heat that dries the ware.

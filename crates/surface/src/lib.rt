@@ -70,7 +70,7 @@ fn fourth_power(at: Degrees) -> Fourth
     requires { ⌜ FourthFits (at .0) ⌝ }
     ensures { λ r. ⌜ r .0 ≡ fourth (at .0) ⌝ }
 {
-    let k = 2730 + at.0;
+    let k = 2730 + at.0 as i64;
     Fourth(k * k * k * k)
 }
 
@@ -113,7 +113,7 @@ fn lost(flux: Flux, area: Area, minutes: Minutes) -> Microjoules
     requires { ⌜ LostFits (flux .0) (area .0) (minutes .0) ⌝ }
     ensures { λ r. ⌜ r .0 ≡ flux .0 *ℤ area .0 *ℤ minutes .0 *ℤ pos 6 ⌝ }
 {
-    Microjoules(flux.0 * area.0 * minutes.0 * 6)
+    Microjoules(flux.0 * area.0 as i64 * minutes.0 as i64 * 6)
 }
 
 // The heat that leaves through a section in a stage.

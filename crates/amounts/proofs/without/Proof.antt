@@ -3,7 +3,7 @@ use mathlib.Core.Path.{_≡_}
 use mathlib.Core.Bool.{true, false}
 use lib.IntN.{pos}
 use lib.Signed.{leZ}
-use mir.Syntax.{w64}
+use mir.Syntax.{w32}
 use mir.Val.{SFits}
 use mir.Facts.{toZ-ofZ}
 use borrow.Author.Needs.{needs}
@@ -13,7 +13,7 @@ use Rattle.amounts.proofs.without.Tie as tie
 returns : tie.Need-returns
 returns c =
     let x = c .before .before .before .before .before .args .c in
-    let fits : SFits w64 (x .0) = search needs in
+    let fits : SFits w32 (x .0) = search needs in
     let v = toZ-ofZ fits in
     let low : leZ (pos 0) (x .0) ≡ true = cc in
     rw (low, v)
@@ -21,7 +21,7 @@ returns c =
 returns-2 : tie.Need-returns-2
 returns-2 c =
     let x = c .before .before .before .args .c in
-    let fits : SFits w64 (x .0) = search needs in
+    let fits : SFits w32 (x .0) = search needs in
     let v = toZ-ofZ fits in
     let low : leZ (pos 0) (x .0) ≡ false = cc in
     rw (low, v, low)

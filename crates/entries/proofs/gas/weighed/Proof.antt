@@ -8,10 +8,10 @@ use borrow.Author.Needs.{needs}
 use lib.IntN.{ℤ, pos, natAbs, _+ℤ_, _*ℤ_, +ℤ-assoc, +ℤ-idl}
 use lib.ListN.{length, getD, drop, List·getD-map, length-map, drop-of-length-le}
 use lib.Seq.{drop-cons}
-use mir.Syntax.{w64}
+use mir.Syntax.{w32, w64}
 use Rattle.arith.proofs.Ring.{v, #, _⊕_, ring}
 use Rattle.arith.proofs.Order.{abs-add}
-use Rattle.arith.proofs.Machine.{Known, small, arg, _⟨+⟩_, _⟨*⟩_, fits, result, bound}
+use Rattle.arith.proofs.Machine.{Known, small, arg, from, _⟨+⟩_, _⟨*⟩_, fits, result, bound}
 use Rattle.quantity.specs.declared.gas.Share.{Share}
 use Rattle.lines.specs.Document01.{weigh}
 use Rattle.lines.specs.Rules.{Every}
@@ -45,17 +45,23 @@ module _ (gas : List Share) (weights : List ℤ) (sum : ℤ) (i : ℕ) (h : i < 
 loop-holds : tie.Need-loop-holds Inv-loop μ-loop
 loop-holds c = (omega arith, omega arith, +ℤ-idl _)
 
-mul-t16 : tie.Need-mul-t16 Inv-loop μ-loop
-mul-t16 c =
+cast-t16 : tie.Need-cast-t16 Inv-loop μ-loop
+cast-t16 c =
     let at = c .before .before .before .before .before .loop in
     let a = c .before .before .before .before .before .before in
-    fits (ks (a .args .t1) (a .args .t2) (at .sum .0) (at .i) (omega arith) (omega arith) (omega arith) (a .pre .0) (a .pre .1) (at .inv .1)) w64 (arg 0 ⟨*⟩ arg 1) tt
+    fits (ks (a .args .t1) (a .args .t2) (at .sum .0) (at .i) (omega arith) (omega arith) (omega arith) (a .pre .0) (a .pre .1) (at .inv .1)) w64 (from w32 (arg 1)) tt
 
-add-t17 : tie.Need-add-t17 Inv-loop μ-loop
-add-t17 c =
+mul-t17 : tie.Need-mul-t17 Inv-loop μ-loop
+mul-t17 c =
+    let at = c .before .before .before .before .before .loop in
+    let a = c .before .before .before .before .before .before in
+    fits (ks (a .args .t1) (a .args .t2) (at .sum .0) (at .i) (omega arith) (omega arith) (omega arith) (a .pre .0) (a .pre .1) (at .inv .1)) w64 (arg 0 ⟨*⟩ from w32 (arg 1)) tt
+
+add-t18 : tie.Need-add-t18 Inv-loop μ-loop
+add-t18 c =
     let at = c .before .before .before .before .before .before .before .loop in
     let a = c .before .before .before .before .before .before .before .before in
-    fits (ks (a .args .t1) (a .args .t2) (at .sum .0) (at .i) (omega arith) (omega arith) (omega arith) (a .pre .0) (a .pre .1) (at .inv .1)) w64 (arg 2 ⟨+⟩ arg 0 ⟨*⟩ arg 1) tt
+    fits (ks (a .args .t1) (a .args .t2) (at .sum .0) (at .i) (omega arith) (omega arith) (omega arith) (a .pre .0) (a .pre .1) (at .inv .1)) w64 (arg 2 ⟨+⟩ arg 0 ⟨*⟩ from w32 (arg 1)) tt
 
 loop-again : tie.Need-loop-again Inv-loop μ-loop
 loop-again c =
@@ -66,8 +72,8 @@ loop-again c =
     let w = getD weights (at .i) (pos 0) in
     let x = getD gas (at .i) (record { 0 = pos 0 }) .0 in
     let known = ks gas weights (at .sum .0) (at .i) (omega arith) (omega arith) (omega arith) (a .pre .0) (a .pre .1) (at .inv .1) in
-    let r = result known w64 (arg 2 ⟨+⟩ arg 0 ⟨*⟩ arg 1) tt in
-    let more : natAbs (w *ℤ x) ≤ 130000 = bound known (arg 0 ⟨*⟩ arg 1) tt in
+    let r = result known w64 (arg 2 ⟨+⟩ arg 0 ⟨*⟩ from w32 (arg 1)) tt in
+    let more : natAbs (w *ℤ x) ≤ 130000 = bound known (arg 0 ⟨*⟩ from w32 (arg 1)) tt in
     let step = weigh-step weights gas (at .i) (omega arith) (omega arith) in
     let rest = weigh (drop (at .i + 1) weights) (drop (at .i + 1) (shares gas)) in (
       omega arith,
@@ -86,4 +92,4 @@ returns c =
 pub weighed-spec : {M : Type 1} → statement M
 weighed-spec =
     tie.close
-    (tie.spec Inv-loop μ-loop loop-holds (λ c. search needs) (λ c. search needs) (λ c. search needs) (λ c. search needs) mul-t16 add-t17 (λ c. search needs) (λ c. omega arith) loop-again returns)
+    (tie.spec Inv-loop μ-loop loop-holds (λ c. search needs) (λ c. search needs) (λ c. search needs) (λ c. search needs) cast-t16 mul-t17 add-t18 (λ c. search needs) (λ c. omega arith) loop-again returns)

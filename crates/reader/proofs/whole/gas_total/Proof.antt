@@ -6,9 +6,9 @@ use native.Mathlib.Omega.{arith}
 use borrow.Author.Needs.{needs}
 use lib.IntN.{ℤ, pos, natAbs, _+ℤ_}
 use lib.ListN.{length, getD, take}
-use mir.Syntax.{w64}
+use mir.Syntax.{w32, w64}
 use Rattle.arith.proofs.Order.{abs-add}
-use Rattle.arith.proofs.Machine.{Known, small, arg, _⟨+⟩_, fits, result}
+use Rattle.arith.proofs.Machine.{Known, small, arg, from, _⟨+⟩_, fits, result}
 use Rattle.sheet.specs.declared.Stage.{Stage}
 use Rattle.lines.specs.Document01.{sumOf}
 use Rattle.tiers.specs.Stages.{SmallGas}
@@ -32,12 +32,19 @@ ks x total i h k l = small (x .gas .0) {B = 200000} h ∷ small total {B = 24000
 loop-holds : tie.Need-loop-holds Inv-loop μ-loop
 loop-holds c = (omega arith, c .pre .0, omega arith, omega arith, refl)
 
-add-t13 : tie.Need-add-t13 Inv-loop μ-loop
-add-t13 c =
+cast-t13 : tie.Need-cast-t13 Inv-loop μ-loop
+cast-t13 c =
+    let at = c .before .before .before .before .before .loop in
+    let a = c .before .before .before .before .before .before in
+    let x = getD (a .args .t1) (at .i) none in
+    fits (ks x (at .total .0) (at .i) (every-at SmallGas (a .args .t1) (at .i) none (a .pre .1) (omega arith)) (at .inv .3) (omega arith)) w64 (from w32 (arg 0)) tt
+
+add-t14 : tie.Need-add-t14 Inv-loop μ-loop
+add-t14 c =
     let at = c .before .before .before .before .before .before .before .loop in
     let a = c .before .before .before .before .before .before .before .before in
     let x = getD (a .args .t1) (at .i) none in
-    fits (ks x (at .total .0) (at .i) (every-at SmallGas (a .args .t1) (at .i) none (a .pre .1) (omega arith)) (at .inv .3) (omega arith)) w64 (arg 1 ⟨+⟩ arg 0) tt
+    fits (ks x (at .total .0) (at .i) (every-at SmallGas (a .args .t1) (at .i) none (a .pre .1) (omega arith)) (at .inv .3) (omega arith)) w64 (arg 1 ⟨+⟩ from w32 (arg 0)) tt
 
 loop-again : tie.Need-loop-again Inv-loop μ-loop
 loop-again c =
@@ -45,7 +52,7 @@ loop-again c =
     let a = c .before .before .before .before .before .before .before .before in
     let x = getD (a .args .t1) (at .i) none in
     let h : SmallGas x = every-at SmallGas (a .args .t1) (at .i) none (a .pre .1) (omega arith) in
-    let r = result (ks x (at .total .0) (at .i) h (at .inv .3) (omega arith)) w64 (arg 1 ⟨+⟩ arg 0) tt in (
+    let r = result (ks x (at .total .0) (at .i) h (at .inv .3) (omega arith)) w64 (arg 1 ⟨+⟩ from w32 (arg 0)) tt in (
       omega arith,
       at .inv .1,
       at .inv .2,
@@ -60,4 +67,4 @@ returns c =
     rw (← e) (at .inv .4)
 
 pub gas-total-spec : {M : Type 1} → statement M
-gas-total-spec = tie.close (tie.spec Inv-loop μ-loop loop-holds (λ c. search needs) (λ c. search needs) add-t13 (λ c. search needs) (λ c. omega arith) loop-again returns)
+gas-total-spec = tie.close (tie.spec Inv-loop μ-loop loop-holds (λ c. search needs) (λ c. search needs) cast-t13 add-t14 (λ c. search needs) (λ c. omega arith) loop-again returns)

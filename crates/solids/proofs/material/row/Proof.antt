@@ -9,7 +9,7 @@ use borrow.Author.Tests.{ne-eqb}
 use lib.Dec.{T as So, eqb, ltb, ltb→lt, lit<}
 use lib.IntN.{ℤ, pos}
 use lib.Signed.{leZ}
-use mir.Syntax.{w64}
+use mir.Syntax.{w32}
 use mir.Val.{SFits}
 use mir.Facts.{toZ-ofZ}
 use Rattle.formulas.specs.Tables.{lineOf, lineAt}
@@ -38,43 +38,46 @@ clay (suc (suc (suc m))) T h k = absurd (omega arith)
 at-most : (m : ℕ) {T : ℤ} → So (ltb m 21) → leZ T (pos 8000) ≡ true → RowIs m T m
 at-most m h e = record { small = ltb→lt m 21 h; same = rw e }
 
+cast-code : tie.Need-cast-code
+cast-code c = search needs
+
 returns : tie.Need-returns
 returns c =
-    let f : SFits w64 (c .before .before .before .before .args .at .0) = search needs in
+    let f : SFits w32 (c .before .before .before .before .before .args .at .0) = search needs in
     rw (c .before .before .before .match .keys2) (at-most 3 tt (rw (toZ-ofZ f) at (c .if1 .taken)))
 
 returns-2 : tie.Need-returns-2
 returns-2 c =
-    let f : SFits w64 (c .before .before .before .before .args .at .0) = search needs in
+    let f : SFits w32 (c .before .before .before .before .before .args .at .0) = search needs in
     rw (c .before .before .before .match .keys2) (record { small = lit< tt; same = rw (rw (toZ-ofZ f) at (c .if1 .left)) })
 
 returns-3 : tie.Need-returns-3
 returns-3 c =
-    let f : SFits w64 (c .before .before .before .before .args .at .0) = search needs in
+    let f : SFits w32 (c .before .before .before .before .before .args .at .0) = search needs in
     rw (c .before .before .before .match .keys3) (at-most 12 tt (rw (toZ-ofZ f) at (c .if2 .taken)))
 
 returns-4 : tie.Need-returns-4
 returns-4 c =
-    let f : SFits w64 (c .before .before .before .before .args .at .0) = search needs in
+    let f : SFits w32 (c .before .before .before .before .before .args .at .0) = search needs in
     rw (c .before .before .before .match .keys3) (record { small = lit< tt; same = rw (rw (toZ-ofZ f) at (c .if2 .left)) })
 
 returns-5 : tie.Need-returns-5
 returns-5 c =
-    let m = c .before .before .args .material .0 in
-    itself (c .before .before .args .at .0) (omega arith) (ne-eqb m 3 (λ e. omega arith)) (ne-eqb m 12 (λ e. omega arith))
+    let m = c .before .before .before .args .material .0 in
+    itself (c .before .before .before .args .at .0) (omega arith) (ne-eqb m 3 (λ e. omega arith)) (ne-eqb m 12 (λ e. omega arith))
 
 returns-6 : tie.Need-returns-6
 returns-6 c =
-    let s = c .before .before .before in
+    let s = c .before .before .before .before in
     let r = c .before .before .match .rest in
     itself (s .args .at .0) (omega arith) (ne-eqb (s .args .material .0) 3 (r .0 .1)) (ne-eqb (s .args .material .0) 12 (r .1))
 
 returns-7 : tie.Need-returns-7
 returns-7 c =
-    record { small = lit< tt; same = rw (c .match .keys1) (ap lineAt (sym (single 15 (c .before .args .at .0) refl refl))) }
+    record { small = lit< tt; same = rw (c .match .keys1) (ap lineAt (sym (single 15 (c .before .before .args .at .0) refl refl))) }
 
 returns-8 : tie.Need-returns-8
-returns-8 c = clay (c .before .before .before .args .material .0) (c .before .before .before .args .at .0) (omega arith) (omega arith)
+returns-8 c = clay (c .before .before .before .before .args .material .0) (c .before .before .before .before .args .at .0) (omega arith) (omega arith)
 
 pub row-spec : {M : Type 1} → statement M
-row-spec = tie.close (tie.spec returns returns-2 returns-3 returns-4 returns-5 returns-6 returns-7 returns-8)
+row-spec = tie.close (tie.spec cast-code returns returns-2 returns-3 returns-4 returns-5 returns-6 returns-7 returns-8)

@@ -3,7 +3,7 @@ use native.Mathlib.Omega.{arith}
 use mir.Syntax.{w16}
 use mir.Val.{SFits}
 use mir.Facts.{sfits-widen}
-use Rattle.quantity.proofs.Casts.{cast-fits, cast-is}
+use Rattle.limits.proofs.Casts.{cast-fits, cast-is}
 use Rattle.quantity.proofs.temperature.SurfaceTemperature.degrees.Statement.{statement}
 use Rattle.quantity.proofs.temperature.SurfaceTemperature.degrees.Tie as tie
 

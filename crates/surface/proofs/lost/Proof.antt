@@ -1,0 +1,34 @@
+-- The area and the minutes are widened, and stand as they are. Assumes nothing.
+use borrow.Author.Needs.{needs}
+use mir.Syntax.{w32}
+use mir.Val.{SFits}
+use Rattle.quantity.proofs.Casts.{widened, widens}
+use Rattle.surface.proofs.lost.Statement.{statement}
+use Rattle.surface.proofs.lost.Tie as tie
+
+area : (c : tie.After-struct-told) → SFits w32 (c .before .before .args .area .0)
+area c = search needs
+
+minutes : (c : tie.After-struct-told3) → SFits w32 (c .before .before .before .before .before .before .args .minutes .0)
+minutes c = search needs
+
+cast-t4 : tie.Need-cast-t4
+cast-t4 c = widens (area c)
+
+mul-t5 : tie.Need-mul-t5
+mul-t5 c = rw (widened (area (c .before .before))) (search needs)
+
+cast-t6 : tie.Need-cast-t6
+cast-t6 c = widens (minutes c)
+
+mul-t7 : tie.Need-mul-t7
+mul-t7 c = rw (widened (area (c .before .before .before .before)), widened (minutes c)) (search needs)
+
+mul-t8 : tie.Need-mul-t8
+mul-t8 c = rw (widened (area (c .before .before .before .before)), widened (minutes c)) (search needs)
+
+returns : tie.Need-returns
+returns c = rw (widened (area (c .before .before .before .before)), widened (minutes c)) (search needs)
+
+pub lost-spec : {M : Type 1} → statement M
+lost-spec = tie.close (tie.spec cast-t4 mul-t5 cast-t6 mul-t7 mul-t8 returns)
