@@ -12,10 +12,11 @@ use Rattle.lines.specs.Document01.{document01}
 use Rattle.lines.specs.Rows.{firingOf}
 use Rattle.lines.proofs.Numbering.{refuses}
 use Rattle.formulas.specs.Report.{report}
-use Rattle.kiln.specs.declared.Answer.{Answer}
-use Rattle.kiln.specs.Answer.{answerOf, bufferOf, refusedText, printedOf}
+use Rattle.answer.specs.declared.Answer.{Answer}
+use Rattle.answer.specs.Answer.{answerOf, bufferOf, refusedText, printedOf}
 use Rattle.kiln.specs.Steps.{Short}
-use Rattle.kiln.proofs.Answering.{enough, at-front, answer-good, buffer-good, printed-good, answer-bad, buffer-bad, printed-bad}
+use Rattle.answer.proofs.Fitting.{enough, at-front}
+use Rattle.kiln.proofs.Answering.{answer-good, buffer-good, printed-good, answer-bad, buffer-bad, printed-bad}
 
 module _ (s old new : List ℕ) (a : Answer) (short : Short s) (room : 600 ≤ length old) (is-answer : a ≡ answerOf s (length old)) (is-buffer : new ≡ bufferOf s old) where
   -- an accepted sheet's report has room

@@ -14,7 +14,7 @@ use Rattle.lines.specs.Reader.{readLine, readRows, readParts, readOf}
 use Rattle.lines.specs.Document01.{below01}
 use Rattle.formulas.specs.Formulas.{sum, specificHeat, sensible, mixedHeat, theoreticalAir, dryOfGas, vapourOfGas, dryFlue, vapourRate, vapour, dryHeat, vapourHeat, flueHeat, monoxideHeat, numbered, convection, radiation, flux, wallHeat, q1, q2, q3, q5, q8, income, x1, x2, x3, x5, x7, x8, x9, x10, spent, x11, waterHeat, useful, withset}
 use Rattle.formulas.specs.Report.{lines, printed, linesText, keys, figures, report}
-use Rattle.kiln.specs.Answer.{refusedAs, answerOf, printedOf}
+use Rattle.answer.specs.Answer.{refusedAs, answerOf, printedOf}
 
 abbrev sheet : List ℕ
 sheet = bytes "sheet=1\nfiring=7\nproduct=10000\nambient=200\nfuel=35000,200\ngas=0,0,0,0,0,0,10000,0,0,0,0,0,0\nair=0\nware=11000,200,12200,0,10000\nwater=500,500,2200\nclay=5000\nstages=1\nstage=2000,1100,8200,0,600\nsetters=1\nsetter=5000,200,0,10000\nparts=1\npart=20000,1,0,200,6200\nsections=1\nsection=3,2,1000\nwalls=1\nwall=3,1,560,200\nend=1\n"

@@ -3,7 +3,7 @@ ghost use mathlib.Core.Path.{_≡_};
 ghost use Prim.Native.Nat.{_≤_, _<_};
 ghost use lib.ListN.{length, take};
 ghost use Rattle.pen.specs.Writing.{Written};
-ghost use Rattle.kiln.specs.Answer.{refusedText, printedOf};
+ghost use Rattle.answer.specs.Answer.{refusedText, printedOf};
 use crate::answered;
 
 // Puts `refused=NUMBER,LINE` and LF at the front, and answers how long it is.

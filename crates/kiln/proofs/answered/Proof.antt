@@ -17,7 +17,7 @@ use Rattle.heat.specs.Balance.{Kept}
 use Rattle.entries.specs.Place.{reason}
 use Rattle.entries.proofs.Places.{is-good, is-bad}
 use Rattle.reader.proofs.Answering.{Firm, firm-judged, firm-limits, refused-judged}
-use Rattle.kiln.specs.Answer.{refusedAs, fitted, placed}
+use Rattle.answer.specs.Answer.{refusedAs, fitted, placed}
 use Rattle.kiln.proofs.Answering.{answer-good, buffer-good, short-good, answer-bad, buffer-bad, short-bad}
 use Rattle.kiln.proofs.answered.Statement.{statement}
 use Rattle.kiln.proofs.answered.Tie as tie

@@ -7,7 +7,7 @@ use Prim.Native.Nat.{ℕ, _≤_}
 use lib.ListN.{length, take}
 use lib.Seq.{length-take-le}
 use Rattle.pen.specs.Writing.{Written}
-use Rattle.kiln.specs.Answer.{refusedText}
+use Rattle.answer.specs.Answer.{refusedText}
 use Rattle.kiln.proofs.Telling.{report-told, refusal-told}
 use Rattle.kiln.proofs.program.print.Statement.{statement}
 use Rattle.kiln.proofs.program.print.Tie as tie

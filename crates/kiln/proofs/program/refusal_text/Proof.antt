@@ -14,7 +14,7 @@ use Rattle.text.specs.Decimal.{decimal}
 use Rattle.pen.specs.Writing.{Written}
 use Rattle.text.proofs.Decimal.{length-decimal}
 use Rattle.pen.proofs.Writing.{next}
-use Rattle.kiln.specs.Answer.{refusedText}
+use Rattle.answer.specs.Answer.{refusedText}
 use Rattle.kiln.proofs.program.refusal_text.Statement.{statement}
 use Rattle.kiln.proofs.program.refusal_text.Tie as tie
 

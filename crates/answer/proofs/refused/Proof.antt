@@ -3,10 +3,10 @@ use borrow.Author.Needs.{needs}
 use mathlib.Core.Path.{ap}
 use Prim.Native.Nat.{ℕ}
 use native.Mathlib.Omega.{arith}
-use Rattle.kiln.specs.Answer.{refusedAs}
-use Rattle.kiln.proofs.Answering.{number-most}
-use Rattle.kiln.proofs.refused.Statement.{statement}
-use Rattle.kiln.proofs.refused.Tie as tie
+use Rattle.answer.specs.Answer.{refusedAs}
+use Rattle.answer.proofs.Fitting.{number-most}
+use Rattle.answer.proofs.refused.Statement.{statement}
+use Rattle.answer.proofs.refused.Tie as tie
 
 refusal-number-requires : tie.Need-refusal-number-requires
 refusal-number-requires c κs = search needs

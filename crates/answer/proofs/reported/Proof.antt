@@ -5,9 +5,9 @@ use native.Mathlib.Nat.{zero-add}
 use borrow.Author.Tests.{leb-true, leb-false}
 use lib.ListN.{length}
 use Rattle.formulas.specs.Report.{keys, linesText}
-use Rattle.kiln.proofs.Answering.{too-little, enough, untouched, at-front}
-use Rattle.kiln.proofs.reported.Statement.{statement}
-use Rattle.kiln.proofs.reported.Tie as tie
+use Rattle.answer.proofs.Fitting.{too-little, enough, untouched, at-front}
+use Rattle.answer.proofs.reported.Statement.{statement}
+use Rattle.answer.proofs.reported.Tie as tie
 
 write-requires : tie.Need-write-requires
 write-requires c κs = leb-true _ _ (sym (c .before .before .fits2 .ensures .0) ∙ c .before .if1 .taken)

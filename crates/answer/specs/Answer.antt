@@ -15,7 +15,7 @@ use Rattle.lines.specs.Reader.{Refused, Good, readOf}
 use Rattle.lines.specs.Document01.{document01}
 use Rattle.lines.specs.Rows.{firingOf}
 use Rattle.formulas.specs.Report.{report}
-use Rattle.kiln.specs.declared.Answer.{Answer}
+use Rattle.answer.specs.declared.Answer.{Answer}
 
 -- a refusal by its number, with its line
 abbrev pub refusedAs : ℕ → ℕ → Answer
