@@ -27,7 +27,7 @@ fn first_fault(fault: usize, field: usize) -> usize
     if fault == 0 { field } else { fault }
 }
 
-// The work of every constructor of a measured quantity.
+// The work of every constructor of a measured quantity, which is kept in 32 bits.
 pub fn measured(v: Number, least: i32, greatest: i32, fault: usize, field: usize) -> MeasuredRead
     ensures { λ r. ⌜ Measured least greatest (v .0) fault field (r .value) (r .fault) ⌝ }
 {

@@ -5,6 +5,9 @@
 // its own field. It returns a struct, `KilosRead` for `Kilos`, with a value that is within the limits
 // in any case and the first fault. So the fields of a line are checked one after another, with no
 // branch between them. `limits` does their work, and its `proofs/Laws.antt` has what their callers may conclude.
+//
+// What is measured is kept in 32 bits, which hold every limit, since the records of a sheet are copied: who counts with it widens it
+// first (`proofs/Casts.antt`).
 pub mod gas;
 pub mod heat;
 pub mod kiln;
