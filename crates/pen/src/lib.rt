@@ -103,11 +103,33 @@ pub fn bytes_at(out: &mut [u8], at: usize, src: &[u8]) -> usize
     at + put_bytes(&mut out[at..], src)
 }
 
+// Puts eight bytes or fewer at the front, and answers how many there are. In so many turns the compiler puts them one by one, where it calls
+// for a copy of any other number.
+fn put_few(out: &mut [u8], src: &[u8]) -> usize
+    requires { ⌜ length (now src) ≤ length (now out) ⌝ }
+    requires { ⌜ length (now src) ≤ 8 ⌝ }
+    ensures { λ r. ⌜ Written 0 (now (src .entry)) (now (out .entry)) (now (out .exit)) r ⌝ }
+{
+    let mut put = 0;
+    let mut turn: usize = 0;
+    while turn < 8 {
+        if put < src.len() {
+            out[put] = src[put];
+            put += 1;
+        }
+        turn += 1;
+    }
+    put
+}
+
 // Puts bytes at the front, and answers how many there are.
 fn put_bytes(out: &mut [u8], src: &[u8]) -> usize
     requires { ⌜ length (now src) ≤ length (now out) ⌝ }
     ensures { λ r. ⌜ Written 0 (now (src .entry)) (now (out .entry)) (now (out .exit)) r ⌝ }
 {
+    if src.len() <= 8 {
+        return put_few(out, src);
+    }
     let mut i = 0;
     while i < src.len() {
         out[i] = src[i];

@@ -19,12 +19,12 @@ abbrev μ-loop : tie.MeasureT-loop
 μ-loop out₀ src i₀ out i = length src - i
 
 loop-holds : tie.Need-loop-holds Inv-loop μ-loop
-loop-holds c = (omega arith, begun 0 (c .args .out .now), refl)
+loop-holds c = (omega arith, begun 0 (c .before .before .before .args .out .now), refl)
 
 loop-again : tie.Need-loop-again Inv-loop μ-loop
 loop-again c =
     let l = c .before .before .loop in
-    let a = c .before .before .before .args in
+    let a = c .before .before .before .before .before .before .args in
     let b = getD (a .src .now) (l .i) 0 in
     let e : take (l .i + 1) (a .src .now) ≡ take (l .i) (a .src .now) ++ (b ∷ []) = rw add-one (take-suc (a .src .now) (l .i) 0 (c .before .loop-test .taken)) in (
       omega arith,
@@ -32,10 +32,10 @@ loop-again c =
       simp length-set (l .inv .2),
     )
 
-returns : tie.Need-returns Inv-loop μ-loop
-returns c =
+returns-2 : tie.Need-returns-2 Inv-loop μ-loop
+returns-2 c =
     let l = c .before .loop in
-    let src = c .before .before .args .src .now in
+    let src = c .before .before .before .before .before .args .src .now in
     let e : take (l .i) src ≡ src = take-all (l .i) src (omega arith) in
     rw e at (l .inv .1)
 
@@ -45,6 +45,9 @@ put-bytes-spec =
     (tie.spec
     Inv-loop
     μ-loop
+    (λ c κs. search needs)
+    (λ c. search needs)
+    (λ c. search needs)
     loop-holds
     (λ c. search needs)
     (λ c. search needs)
@@ -52,4 +55,4 @@ put-bytes-spec =
     (λ c. search needs)
     loop-again
     (λ c. search needs)
-    returns)
+    returns-2)
