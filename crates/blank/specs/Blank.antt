@@ -33,6 +33,7 @@ blankSection = record { number = record { 0 = 0 }; place = record { 0 = 0 }; are
 
 abbrev pub blankHead : Head
 blankHead = record {
+  edition = record { 0 = 0 };
   firing = record { 0 = pos 0 };
   product = record { 0 = pos 0 };
   ambient = record { 0 = pos 0 };

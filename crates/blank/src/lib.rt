@@ -16,6 +16,7 @@ use quantity::kiln::Place;
 use quantity::kiln::SectionNumber;
 use quantity::mass::Kilos;
 use quantity::mass::Product;
+use quantity::sheet::Edition;
 use quantity::sheet::FiringNumber;
 use quantity::sheet::PartCount;
 use quantity::sheet::SectionCount;
@@ -112,6 +113,7 @@ fn head() -> Head
     ensures { λ r. ⌜ r ≡ blankHead ⌝ }
 {
     Head {
+        edition: Edition(0),
         firing: FiringNumber(0),
         product: Product(0),
         ambient: Ambient(0),

@@ -21,8 +21,7 @@ use Rattle.lines.specs.Quantities.{product, ambient, heating, flue, monoxide, g
 use Rattle.lines.specs.Rules.{Every}
 use Rattle.lines.specs.Rows.{firingOf}
 use Rattle.lines.specs.Limits.{In, StageIn, SectionIn, Limits}
-use Rattle.lines.proofs.Limits.{limits}
-use Rattle.lines.proofs.Document01.{firing-kept}
+use Rattle.lines.proofs.Document01.{firing-limits}
 use Rattle.formulas.specs.Rounding.{Rounding, paper}
 use Rattle.formulas.specs.Formulas.{joule, sensible, totalGas, q1, q2, q3, q5, q8, income, x1, x2, x3, x5, x10, dryFlue, vapourRate, vapour, dryHeat, vapourHeat, flueHeat, monoxideHeat, x7, x8, noStage, numbered, sectionOf, stageOf, convection, radiation, flux, wallHeat, x9, spent, x11, waterHeat, useful, withset}
 use Rattle.formulas.proofs.Sums.{sum-of}
@@ -253,5 +252,5 @@ module _ (f : Firing) (h : Limits f) (choice : Choice) where
 pub demand3 : Demand3
 demand3 = record {
   enclosed = enclosed;
-  near = λ text sheet good choice. near (firingOf sheet) (limits (firingOf sheet) (firing-kept text sheet good .keeps)) choice;
+  near = λ text sheet good choice. near (firingOf sheet) (firing-limits text sheet good) choice;
 }

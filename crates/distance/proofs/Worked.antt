@@ -8,9 +8,8 @@ use Rattle.text.specs.Decimal.{digitsIn, digits, decimal}
 use Rattle.text.specs.Scanning.{upTo, begins}
 use Rattle.lines.specs.Schema.{joined, bodyText, lineText, pieces, numbersOf, formedBy, outsideOf, judge}
 use Rattle.lines.specs.Reader.{rowsText, sheetText, textOf, readLine, readRows, readParts, Good, readOf}
-use Rattle.lines.specs.Document01.{below01, document01}
+use Rattle.lines.specs.Document01.{entriesOf, document01, sheetOf}
 use Rattle.lines.specs.Rules.{Every}
-use Rattle.lines.specs.Rows.{sheetOf}
 use Rattle.formulas.specs.Marked.{worked}
 use Rattle.formulas.specs.Report.{lines}
 use Rattle.distance.specs.Demand.{cutDown, oneMore, Near}
@@ -21,11 +20,13 @@ abbrev text : List ℕ
 text = textOf document01 (sheetOf worked)
 
 read : readOf document01 text ≡ Good (sheetOf worked)
-unfolding below01 readOf readParts readRows readLine judge formedBy upTo begins pieces numbersOf numberWithin unsigned digitsRead outsideOf textOf sheetText rowsText lineText bodyText joined decimal digits digitsIn
+unfolding entriesOf readOf readParts readRows readLine judge formedBy upTo begins pieces numbersOf numberWithin unsigned digitsRead outsideOf textOf sheetText rowsText lineText bodyText joined decimal digits digitsIn
 read = refl
 
 below : Every (Near worked (λ w. cutDown)) lines
+unfolding entriesOf
 below = demand3 .near text (sheetOf worked) read (λ w. cutDown)
 
 above : Every (Near worked (λ w. oneMore)) lines
+unfolding entriesOf
 above = demand3 .near text (sheetOf worked) read (λ w. oneMore)

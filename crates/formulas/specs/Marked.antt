@@ -50,6 +50,7 @@ still = record { section = pos 3; stage = pos 1; surface = pos 200; air = pos 20
 -- the worked firing
 abbrev pub worked : Firing
 worked = record {
+  edition = pos 1;
   number = pos 7;
   product = pos 10000;
   ambient = pos 200;

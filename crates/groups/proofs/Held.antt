@@ -4,16 +4,16 @@ use mathlib.Core.Path.{_≡_, refl, sym, ap, _∙_, subst}
 use mathlib.Core.Bool.{true, false}
 use mathlib.Core.List.{List, [], _∷_, _++_, map}
 use mathlib.Core.Option.{none}
-use lib.IntN.{ℤ}
-use lib.ListN.{take, replicate, length-replicate}
+use lib.IntN.{ℤ, pos}
+use lib.ListN.{take, replicate, length-replicate, length-map}
 use Rattle.quantity.specs.declared.gas.Share.{Share}
 use Rattle.sheet.specs.declared.Sheet.{Sheet as Sheetˢ}
 use Rattle.sheet.specs.Firing.{Section}
 use Rattle.sheet.specs.Shown.{gas, stage, setter, part, section, laid, unread}
-use Rattle.lines.specs.Schema.{Row, plain}
+use Rattle.lines.specs.Schema.{Row, plain, at}
 use Rattle.lines.specs.Reader.{Sheet, Part, one, filled, readLine, readPart, readParts, readLines}
-use Rattle.lines.specs.Document01.{free, sheetLine, firingLine, productLine, ambientLine, fuelLine, gasLine, airLine, wareLine, waterLine, clayLine, stageLine, setterLine, partLine, sectionLine, wallLine, endLine, below01, document01}
-use Rattle.lines.specs.Rows.{gasOf, stageOf, setterOf, partOf, sectionRow, sectionOf, wallOf}
+use Rattle.lines.specs.Document01.{free, sheetLine, firingLine, productLine, ambientLine, fuelLine, gasLine, airLine, wareLine, waterLine, clayLine, stageLine, setterLine, partLine, sectionLine, wallLine, endLine, entriesOf, partsOf, document01}
+use Rattle.lines.specs.Rows.{gasOf, stageOf, setterOf, partOf, sectionRow, sectionOf, wallOf, editionIn}
 use Rattle.lines.specs.Rules.{Every}
 use Rattle.walls.proofs.Readings.{Placed}
 use Rattle.entries.specs.declared.Place.{Place}
@@ -52,17 +52,17 @@ pub record Passes (s : List ℕ) (p q : Place) : Type 0 where
 
 pub walls-pass : (s : List ℕ) (p : Place) (S : List Section) (k : ℕ) (r : WallRows) → WallsRead s p S k r → Passes s p (r .place)
 walls-pass s p S k r h =
-    let a = h (some-sheet S k) refl (rows-back S) (length-replicate k (plain [])) in
+    let a = h (some-sheet S k) refl (rows-back S) (length-map (replicate k (plain [])) stageOf ∙ length-replicate k (plain [])) in
     record { passes = a .passes; fair = a .fair }
 
 -- ---- the struct and the rows
 gas-is : (l : List Share) (r : Row) → shares l ≡ r .numbers → gasOf r ≡ gas l
 gas-is l r e = ap (λ (zs : List ℤ). gasOf (plain zs)) (sym e)
 
-abbrev sheetFrom : Upper → Lower → StagesPart → SettersPart → PartsPart → SectionsPart → WallRows → Sheetˢ
-sheetFrom u l a b c d w = record { head = headOf u l; stages = a .stages; setters = b .setters; parts = c .parts; sections = d .sections; readings = w .readings }
+abbrev sheetFrom : EditionLine → Upper → Lower → StagesPart → SettersPart → PartsPart → SectionsPart → WallRows → Sheetˢ
+sheetFrom e u l a b c d w = record { head = headOf (e .edition) u l; stages = a .stages; setters = b .setters; parts = c .parts; sections = d .sections; readings = w .readings }
 
-module _ (u : Upper) (l : Lower) (a : StagesPart) (b : SettersPart) (c : PartsPart) (d : SectionsPart) (w : WallRows) where
+module _ (e : EditionLine) (u : Upper) (l : Lower) (a : StagesPart) (b : SettersPart) (c : PartsPart) (d : SectionsPart) (w : WallRows) where
   abbrev S : List Section
   S = map section (take (d .sections .count .0) (d .sections .lines))
 
@@ -87,17 +87,18 @@ module _ (u : Upper) (l : Lower) (a : StagesPart) (b : SettersPart) (c : PartsPa
       ∙ ap (λ (x : Sheet). (((x ++ filled airLine (hl .moistureRow ∷ [])) ++ filled wareLine (hl .wareRow ∷ [])) ++ filled waterLine (hl .waterRow ∷ [])) ++ filled clayLine (hl .clayRow ∷ [])) (hu .whole)
 
   -- all rows make the struct
-  held : (edition end : Row) {seen seen′ s₁ s₂ : Sheet} (hu : UpperShown u seen s₁) (hl : LowerShown l seen′ s₂) (st se pa sc wa : List Row)
+  held : (edition end : Row) → pos (e .edition .0) ≡ at edition 0 → {seen seen′ s₁ s₂ : Sheet} (hu : UpperShown u seen s₁) (hl : LowerShown l seen′ s₂) (st se pa sc wa : List Row)
       → Filled stage stageOf blankStage 12 (a .stages .count .0) (a .stages .lines) st
       → Filled setter setterOf blankSetter 32 (b .setters .count .0) (b .setters .lines) se
       → Filled part partOf blankPart 32 (c .parts .count .0) (c .parts .lines) pa
       → SectionsShown (d .sections .count .0) (d .sections .lines) sc
       → WallsShown S (w .readings) wa
-      → Held (sheetFrom u l a b c d w)
+      → Held (sheetFrom e u l a b c d w)
       ((((((topRows edition hu hl ++ filled stageLine st) ++ filled setterLine se) ++ filled partLine pa) ++ filled sectionLine sc) ++ filled wallLine wa) ++ filled endLine (end ∷ []))
-  held edition end hu hl st se pa sc wa fa fb fc fd fw = record {
+  held edition end is hu hl st se pa sc wa fa fb fc fd fw = record {
     shows = record {
       lines = λ i. record {
+        edition = sym is i;
         number = sym (hu .firingIs) i;
         product = sym (hu .productIs) i;
         ambient = sym (hu .ambientIs) i;
@@ -125,22 +126,22 @@ module _ (u : Upper) (l : Lower) (a : StagesPart) (b : SettersPart) (c : PartsPa
       partsFit = filled-most part partOf blankPart 32 fc;
       sectionsFit = filled-most section sectionOf blankSection 12 (fd .filled);
     };
-    stagesAre = fa .count;
-    sectionsAre = fd .filled .count;
+    stagesAre = length-map st stageOf ∙ fa .count;
+    sectionsAre = length-map sc sectionOf ∙ fd .filled .count;
     distinct = fd .distinct;
     placed = subst (λ (x : List Section). Every (Placed x) (map wallOf wa)) (fd .filled .shown) (fw .placed);
   }
 
 -- ---- line after line
-module _ (s : List ℕ) (start : Place) (e : EditionLine) (u : Upper) (l : Lower) (a : StagesPart) (b : SettersPart) (c : PartsPart) (d : SectionsPart) (w : WallRows) (z : ClosingLine) (E Z : Row → Type 0)
-    (he : After s start (readLine sheetLine (λ row. none)) (e .place) E)
+module _ (s : List ℕ) (start : Place) (e : EditionLine) (u : Upper) (l : Lower) (a : StagesPart) (b : SettersPart) (c : PartsPart) (d : SectionsPart) (w : WallRows) (z : ClosingLine) (Z : Row → Type 0)
+    (he : After s start (readLine sheetLine (λ row. none)) (e .place) (λ row. pos (e .edition .0) ≡ at row 0))
     (hu : (seen : Sheet) → After s (e .place) (readParts upperParts seen) (u .place) (UpperShown u seen))
     (hl : (seen : Sheet) → After s (u .place) (readParts lowerParts seen) (l .place) (LowerShown l seen))
     (ha : StagesRead s (l .place) a) (hb : SettersRead s (a .place) b) (hc : PartsRead s (b .place) c) (hd : SectionsRead s (c .place) d)
-    (hw : WallsRead s (d .place) (S u l a b c d w) (a .stages .count .0) w)
+    (hw : WallsRead s (d .place) (S e u l a b c d w) (a .stages .count .0) w)
     (hz : After s (w .place) (readLine endLine (λ row. none)) (z .place) Z) where
   abbrev Q : Sheet → Type 0
-  Q = Held (sheetFrom u l a b c d w)
+  Q = Held (sheetFrom e u l a b c d w)
 
   g7 : good (w .place) ≡ false → z .place ≡ w .place
   g7 = hz .passes
@@ -167,11 +168,11 @@ module _ (s : List ℕ) (start : Place) (e : EditionLine) (u : Upper) (l : Lower
   g0 = pass-on (hu [] .passes) g1
 
   -- the blocks and the last line, below rows that are known
-  blocks-after : (edition : Row) {seen seen′ s₁ s₂ : Sheet} (ku : UpperShown u seen s₁) (kl : LowerShown l seen′ s₂)
-      → After s (l .place) (readParts (stagesOf01 ∷ settersOf01 ∷ partsOf01 ∷ sectionsOf01 ∷ wallsOf01 ∷ one endLine free ∷ []) (topRows u l a b c d w edition ku kl)) (z .place) Q
-  blocks-after edition ku kl =
+  blocks-after : (edition : Row) → pos (e .edition .0) ≡ at edition 0 → {seen seen′ s₁ s₂ : Sheet} (ku : UpperShown u seen s₁) (kl : LowerShown l seen′ s₂)
+      → After s (l .place) (readParts (stagesOf01 ∷ settersOf01 ∷ partsOf01 ∷ sectionsOf01 ∷ wallsOf01 ∷ one endLine free ∷ []) (topRows e u l a b c d w edition ku kl)) (z .place) Q
+  blocks-after edition is ku kl =
       let f = hz .fair in
-      let t = topRows u l a b c d w edition ku kl in
+      let t = topRows e u l a b c d w edition ku kl in
       then-part s stagesOf01 stageLine (settersOf01 ∷ partsOf01 ∷ sectionsOf01 ∷ wallsOf01 ∷ one endLine free ∷ []) t Q (l .place) (a .place) (z .place) _ (ha .after t) (λ st fa.
       (let t1 = t ++ filled stageLine st in
       then-part s settersOf01 setterLine (partsOf01 ∷ sectionsOf01 ∷ wallsOf01 ∷ one endLine free ∷ []) t1 Q (a .place) (b .place) (z .place) _ (hb t1) (λ se fb.
@@ -180,21 +181,21 @@ module _ (s : List ℕ) (start : Place) (e : EditionLine) (u : Upper) (l : Lower
       (let t3 = t2 ++ filled partLine pa in
       then-part s sectionsOf01 sectionLine (wallsOf01 ∷ one endLine free ∷ []) t3 Q (c .place) (d .place) (z .place) _ (hd .after t3 refl) (λ sc fd.
       (let t4 = t3 ++ filled sectionLine sc in
-      then-part s wallsOf01 wallLine (one endLine free ∷ []) t4 Q (d .place) (w .place) (z .place) _ (hw t4 refl (sym (fd .filled .shown)) (fa .count)) (λ wa fw.
+      then-part s wallsOf01 wallLine (one endLine free ∷ []) t4 Q (d .place) (w .place) (z .place) _ (hw t4 refl (sym (fd .filled .shown)) (length-map st stageOf ∙ fa .count)) (λ wa fw.
       (let t5 = t4 ++ filled wallLine wa in
-      then-line s endLine free [] t5 Q (w .place) (z .place) (z .place) Z hz (λ end k. parts-done s (z .place) (t5 ++ filled endLine (end ∷ [])) Q (held u l a b c d w edition end ku kl st se pa sc wa fa fb fc fd fw) f) (λ h. refl) f)) g7 f)) g6 f)) g5 f)) g4 f)) g3 f
+      then-line s endLine free [] t5 Q (w .place) (z .place) (z .place) Z hz (λ end k. parts-done s (z .place) (t5 ++ filled endLine (end ∷ [])) Q (held e u l a b c d w edition end is ku kl st se pa sc wa fa fb fc fd fw) f) (λ h. refl) f)) g7 f)) g6 f)) g5 f)) g4 f)) g3 f
 
   -- ALL LINES
   pub lines-after : After s start (readLines document01) (z .place) Q
-  unfolding below01
+  unfolding entriesOf
   lines-after =
       let f = hz .fair in
       let rest : List Part = stagesOf01 ∷ settersOf01 ∷ partsOf01 ∷ sectionsOf01 ∷ wallsOf01 ∷ one endLine free ∷ [] in
-      after-bind s start (e .place) (z .place) (readPart (one sheetLine free) []) (λ seen. readParts below01 seen) _ Q (one-after s sheetLine free [] start (e .place) E he)
+      after-bind s start (e .place) (z .place) (readPart (one sheetLine free) []) (λ seen. readParts (partsOf (entriesOf (editionIn seen))) seen) _ Q (one-after s sheetLine free [] start (e .place) (λ row. pos (e .edition .0) ≡ at row 0) he)
       (λ t k.
       (let r = k .2 .0 in
       let t0 = filled sheetLine (r ∷ []) in
-      subst (λ (x : Sheet). After s (e .place) (readParts below01 x) (z .place) Q) (sym (k .1 ∙ ap (λ (y : List Row). filled sheetLine y) (k .2 .1)))
+      subst (λ (x : Sheet). After s (e .place) (readParts (partsOf (entriesOf (editionIn x))) x) (z .place) Q) (sym (k .1 ∙ ap (λ (y : List Row). filled sheetLine y) (k .2 .1)))
       (then-parts s upperParts (lowerParts ++ rest) t0 (e .place) (u .place) (z .place) (UpperShown u t0) Q (hu t0) (λ s₁ ku.
       then-parts s lowerParts rest s₁ (u .place) (l .place) (z .place) (LowerShown l s₁) Q (hl s₁) (λ s₂ kl.
-      subst (λ (x : Sheet). After s (l .place) (readParts rest x) (z .place) Q) (sym (top-rows u l a b c d w r ku kl)) (blocks-after r ku kl)) g2 f) g1 f))) g0 f
+      subst (λ (x : Sheet). After s (l .place) (readParts rest x) (z .place) Q) (sym (top-rows e u l a b c d w r ku kl)) (blocks-after r (k .2 .2) ku kl)) g2 f) g1 f))) g0 f

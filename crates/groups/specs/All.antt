@@ -1,15 +1,16 @@
 -- What the code has when it has read all lines.
 use Prim.Native.Nat.{ℕ, _-_, _≤_}
 use mathlib.Core.Path.{_≡_}
-use mathlib.Core.List.{List, map}
+use mathlib.Core.List.{List}
 use lib.ListN.{length, drop, replicate}
+use Rattle.quantity.specs.declared.sheet.Edition.{Edition}
 use Rattle.sheet.specs.declared.Head.{Head}
 use Rattle.sheet.specs.declared.Sheet.{Sheet as Sheetˢ}
 use Rattle.sheet.specs.Shown.{Shows}
 use Rattle.lines.specs.Reader.{Sheet, readLines}
 use Rattle.lines.specs.Document01.{document01}
-use Rattle.lines.specs.Rows.{sectionOf, wallOf, firingOf}
-use Rattle.lines.specs.Rules.{Every, sections, stages, walls}
+use Rattle.lines.specs.Rows.{stagesIn, sectionsIn, wallsIn, firingOf}
+use Rattle.lines.specs.Rules.{Every}
 use Rattle.walls.proofs.Sections.{Distinct}
 use Rattle.walls.proofs.Readings.{Placed}
 use Rattle.entries.specs.declared.Place.{Place}
@@ -20,8 +21,8 @@ use Rattle.entries.specs.Place.{After}
 use Rattle.tiers.specs.Stages.{SmallGas}
 use Rattle.blank.specs.Blank.{blankStage, blankSetter, blankPart, blankSection}
 
-abbrev pub headOf : Upper → Lower → Head
-headOf u l = record { firing = u .firing; product = u .product; ambient = u .ambient; fuel = u .fuel; gas = u .gas; moisture = l .moisture; ware = l .ware; water = l .water; clay = l .clay }
+abbrev pub headOf : Edition → Upper → Lower → Head
+headOf e u l = record { edition = e; firing = u .firing; product = u .product; ambient = u .ambient; fuel = u .fuel; gas = u .gas; moisture = l .moisture; ware = l .ware; water = l .water; clay = l .clay }
 
 -- the counts are within their arrays, beyond which nothing could be shown, and beyond their counts the blocks are blank
 pub record Trimmed (x : Sheetˢ) : Type 0 where
@@ -38,10 +39,10 @@ pub record Trimmed (x : Sheetˢ) : Type 0 where
 pub record Held (x : Sheetˢ) (sheet : Sheet) : Type 0 where
   pub shows : Shows x (firingOf sheet)
   pub trimmed : Trimmed x
-  pub stagesAre : length (stages sheet) ≡ x .stages .count .0
-  pub sectionsAre : length (sections sheet) ≡ x .sections .count .0
-  pub distinct : Distinct (map sectionOf (sections sheet))
-  pub placed : Every (Placed (map sectionOf (sections sheet))) (map wallOf (walls sheet))
+  pub stagesAre : length (stagesIn sheet) ≡ x .stages .count .0
+  pub sectionsAre : length (sectionsIn sheet) ≡ x .sections .count .0
+  pub distinct : Distinct (sectionsIn sheet)
+  pub placed : Every (Placed (sectionsIn sheet)) (wallsIn sheet)
 
 -- what holds of the struct whatever was read
 pub record Sized (x : Sheetˢ) : Type 0 where

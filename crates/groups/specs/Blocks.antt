@@ -2,15 +2,15 @@
 use Prim.Native.Nat.{ℕ, _≤_}
 use mathlib.Core.Path.{_≡_}
 use mathlib.Core.Bool.{true}
-use mathlib.Core.List.{List, map}
+use mathlib.Core.List.{List}
 use lib.ListN.{length}
 use Rattle.text.specs.Bytes.{bytes}
 use Rattle.sheet.specs.Firing.{Section}
 use Rattle.sheet.specs.Shown.{stage, setter, part}
 use Rattle.lines.specs.Reader.{Sheet, Part, many, readPart}
 use Rattle.lines.specs.Document01.{free, material-rule, section-rule, wall-rule, stageLine, setterLine, partLine, sectionLine, wallLine}
-use Rattle.lines.specs.Rows.{stageOf, setterOf, partOf, sectionOf}
-use Rattle.lines.specs.Rules.{Every, sections, stages}
+use Rattle.lines.specs.Rows.{stageOf, setterOf, partOf, stagesIn, sectionsIn}
+use Rattle.lines.specs.Rules.{Every}
 use Rattle.entries.specs.declared.Place.{Place}
 use Rattle.groups.specs.declared.parts.StagesPart.{StagesPart}
 use Rattle.groups.specs.declared.parts.SettersPart.{SettersPart}
@@ -56,4 +56,4 @@ pub record SectionsRead (s : List ℕ) (p : Place) (r : SectionsPart) : Type 0 w
 -- the readings, given the sections and the number of stages above them
 abbrev pub WallsRead : List ℕ → Place → List Section → ℕ → WallRows → Type 0
 WallsRead s p S k r =
-    (seen : Sheet) → lacks (bytes "wall") seen ≡ true → map sectionOf (sections seen) ≡ S → length (stages seen) ≡ k → After s p (readPart wallsOf01 seen) (r .place) (With wallLine seen (WallsShown S (r .readings)))
+    (seen : Sheet) → lacks (bytes "wall") seen ≡ true → sectionsIn seen ≡ S → length (stagesIn seen) ≡ k → After s p (readPart wallsOf01 seen) (r .place) (With wallLine seen (WallsShown S (r .readings)))

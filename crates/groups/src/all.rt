@@ -12,14 +12,15 @@ use crate::tops::Upper;
 use crate::tops::lower_lines;
 use crate::tops::upper_lines;
 use entries::Place;
+use quantity::sheet::Edition;
 use records::head::closing_line;
 use records::head::edition_line;
 use sheet::Head;
 use sheet::Sheet;
 
-// The head of a sheet, from its two groups of lines.
-fn head_of(u: Upper, l: Lower) -> Head
-    ensures { λ r. ⌜ r ≡ headOf u l ⌝ }
+// The head of a sheet, from its first line and its two groups of lines.
+fn head_of(edition: Edition, u: Upper, l: Lower) -> Head
+    ensures { λ r. ⌜ r ≡ headOf edition u l ⌝ }
 {
     let firing = u.firing;
     let product = u.product;
@@ -31,6 +32,7 @@ fn head_of(u: Upper, l: Lower) -> Head
     let water = l.water;
     let clay = l.clay;
     Head {
+        edition,
         firing,
         product,
         ambient,
@@ -63,7 +65,8 @@ pub fn all_lines(s: &[u8], start: Place) -> Lines
     let d = sections_part(s, c.place);
     let w = walls_part(s, d.place, d.sections, a.stages.count.0);
     let closing = closing_line(s, w.place);
-    let head = head_of(upper, lower);
+    let number = edition.edition;
+    let head = head_of(number, upper, lower);
     let place = closing.place;
     let stages = a.stages;
     let setters = b.setters;

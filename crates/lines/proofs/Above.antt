@@ -1,14 +1,19 @@
 -- Form and rules apart: a sheet keeps its document where its rows fit and every row keeps its rule, given the rows above it.
 -- Assumes nothing.
-use mathlib.Core.Path.{_≡_, refl}
-use mathlib.Core.List.{List, [], _∷_, _++_, map}
+use mathlib.Core.Path.{_≡_, refl, sym, subst}
+use mathlib.Core.List.{List, [], _∷_, _++_, map, map-append}
 use mathlib.Core.Logic.{⊎-elim}
 use mathlib.Core.Option.{none}
 use Rattle.lines.specs.Schema.{Line, Row}
-use Rattle.lines.specs.Reader.{Filled, Sheet, Rule, Part, one, many, filled, RowsKeep, PartKeeps, PartsKeep}
+use Rattle.lines.specs.Reader.{Filled, Sheet, Rule, Part, one, many, lineOf, ruleOf, filled, Along, RowsKeep, PartKeeps, PartsKeep}
 use Rattle.lines.specs.Document01.{free}
 use Rattle.lines.specs.Rules.{Some, Every, NoTwo, unruled}
 use Rattle.lines.proofs.Lists.{every-imp, every-with, some-before, some-last, some-either}
+
+-- each says the other
+pub record Same (A B : Type 0) : Type 0 where
+  pub to : A → B
+  pub from : B → A
 
 -- WHAT HOLDS OF EVERY ROW, given those above it
 module _ {A : Type 0} where
@@ -56,23 +61,24 @@ module _ {A : Type 0} where
         nothing [] = tt
         nothing (y ∷ ys) = (λ s. s, nothing ys)
 
+-- of the things that a list was made from
+module _ {A B : Type 0} (to : A → B) (P : List B → B → Type 0) where
+  pub each-made : (above xs : List A) → Same (Each (λ a x. P (map to a) (to x)) above xs) (Each P (map to above) (map to xs))
+  each-made above [] = record { to = λ k. k; from = λ k. k }
+  each-made above (x ∷ xs) =
+      let rest = each-made (above ++ (x ∷ [])) xs in
+      let e : map to (above ++ (x ∷ [])) ≡ map to above ++ (to x ∷ []) = map-append to above (x ∷ []) in
+      record {
+        to = λ k. (k .0, subst (λ (a : List B). Each P a (map to xs)) e (rest .to (k .1)));
+        from = λ k. (k .0, rest .from (subst (λ (a : List B). Each P a (map to xs)) (sym e) (k .1)));
+      }
+
 -- THE RULES OF A SHEET, without form and range
-abbrev pub lineOf : Part → Line
-lineOf (one l rule) = l
-lineOf (many key a b l rule) = l
-
-abbrev pub ruleOf : Part → Rule
-ruleOf (one l rule) = rule
-ruleOf (many key a b l rule) = rule
-
 pub record RowsRuled (p : Part) (seen : Sheet) (rows : List Row) : Type 0 where
   pub each : Each (λ above row. ruleOf p (seen ++ filled (lineOf p) above) row ≡ none) [] rows
 
 abbrev pub Ruled : List Part → Sheet → Sheet → Type 0
-Ruled [] seen [] = Unit {0}
-Ruled [] seen (f ∷ fs) = ⊥
-Ruled (p ∷ ps) seen [] = ⊥
-Ruled (p ∷ ps) seen (f ∷ fs) = RowsRuled p seen (f .rows) × Ruled ps (seen ++ (f ∷ [])) fs
+Ruled = Along (λ p seen f. RowsRuled p seen (f .rows))
 
 module _ (l : Line) (rule : Rule) (seen : Sheet) where
   rows-split : (above rows : List Row) → RowsKeep l rule seen above rows → RowsKeep l free seen above rows × Each (λ a row. rule (seen ++ filled l a) row ≡ none) above rows

@@ -13,7 +13,7 @@ use Rattle.text.specs.Scanning.{upTo, begins}
 use Rattle.sheet.specs.Refusals as refusals
 use Rattle.lines.specs.Schema.{joined, bodyText, lineText, pieces, numbersOf, formedBy, outsideOf, judge}
 use Rattle.lines.specs.Reader.{rowsText, sheetText, textOf, readLine, readRows, readParts, Answer, Refused, Good, readOf}
-use Rattle.lines.specs.Document01.{sameKey, below01, document01}
+use Rattle.lines.specs.Document01.{sameKey, entriesOf, document01}
 
 -- the sheet of document 01, with other values in some places and with other lines from `section` on
 abbrev sheet : String → String → String → String → List ℕ
@@ -101,7 +101,7 @@ right (c ∷ cs) = sameKey (heard (readOf document01 (c .text))) (c .number ∷ 
 
 -- the table holds
 pub edges : right cases ≡ true
-unfolding below01 readOf readParts readRows readLine judge formedBy upTo begins pieces numbersOf numberWithin unsigned digitsRead outsideOf
+unfolding entriesOf readOf readParts readRows readLine judge formedBy upTo begins pieces numbersOf numberWithin unsigned digitsRead outsideOf
 edges = refl
 
 -- the text of the firing that is read is the text
@@ -110,5 +110,5 @@ again (Refused r n) = []
 again (Good s) = textOf document01 s
 
 pub text-again : again (readOf document01 (section whole)) ≡ section whole
-unfolding below01 readOf readParts readRows readLine judge formedBy upTo begins pieces numbersOf numberWithin unsigned digitsRead outsideOf textOf sheetText rowsText lineText bodyText joined decimal digits digitsIn
+unfolding entriesOf readOf readParts readRows readLine judge formedBy upTo begins pieces numbersOf numberWithin unsigned digitsRead outsideOf textOf sheetText rowsText lineText bodyText joined decimal digits digitsIn
 text-again = refl

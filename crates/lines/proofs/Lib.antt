@@ -9,6 +9,9 @@ pub mod Lists
 pub mod Above
 pub mod Forms
 pub mod Rows
+pub mod Fields
+pub mod Ruled
+pub mod Entries
 pub mod Kept
 pub mod Limits
 pub mod Numbering

@@ -16,6 +16,23 @@ module _ {A : Type 0} where
   every-with h [] k m = tt
   every-with h (x ∷ xs) k m = (h x (k .0) (m .0), every-with h xs (k .1) (m .1))
 
+  pub every-one : {P : A → Type 0} → ((x : A) → P x) → (xs : List A) → Every P xs
+  every-one h [] = tt
+  every-one h (x ∷ xs) = (h x, every-one h xs)
+
+  -- every one of two lists, one behind the other
+  pub every-join : (P : A → Type 0) (xs ys : List A) → Every P xs → Every P ys → Every P (xs ++ ys)
+  every-join P [] ys k m = m
+  every-join P (x ∷ xs) ys k m = (k .0, every-join P xs ys (k .1) m)
+
+  pub every-split : (P : A → Type 0) (xs ys : List A) → Every P (xs ++ ys) → Every P xs × Every P ys
+  every-split P [] ys k = (tt, k)
+  every-split P (x ∷ xs) ys k = let m = every-split P xs ys (k .1) in ((k .0, m .0), m .1)
+
+  pub no-two-imp : {R S : A → A → Type 0} → ((x y : A) → S x y → R x y) → (xs : List A) → NoTwo R xs → NoTwo S xs
+  no-two-imp h [] k = tt
+  no-two-imp h (x ∷ xs) k = (every-imp (λ y n r. n (h y x r)) xs (k .0), no-two-imp h xs (k .1))
+
   -- one of a list with one more is one of the list or this one
   module _ (P : A → Type 0) (x : A) where
     pub some-before : (xs : List A) → Some P xs → Some P (xs ++ (x ∷ []))
@@ -30,19 +47,15 @@ module _ {A : Type 0} where
     some-either [] s = ⊎-elim (λ p. inr p) (λ p. absurd p) s
     some-either (y ∷ xs) s = ⊎-elim (λ p. inl (inl p)) (λ p. ⊎-elim (λ q. inl (inr q)) (λ q. inr q) (some-either xs p)) s
 
--- what holds of a list that was made from another one holds of the other
+-- what holds of a list that was made from another one holds of the other, and back
 module _ {A B : Type 0} (to : A → B) where
   pub every-made : (P : B → Type 0) (xs : List A) → Every P (map to xs) → Every (λ x. P (to x)) xs
   every-made P [] k = tt
   every-made P (x ∷ xs) k = (k .0, every-made P xs (k .1))
 
-  pub some-made : (P : B → Type 0) (xs : List A) → Some P (map to xs) → Some (λ x. P (to x)) xs
-  some-made P [] s = s
-  some-made P (x ∷ xs) s = ⊎-elim (λ p. inl p) (λ p. inr (some-made P xs p)) s
-
-  pub no-two-made : (R : B → B → Type 0) (S : A → A → Type 0) → ((x y : A) → S x y → R (to x) (to y)) → (xs : List A) → NoTwo R (map to xs) → NoTwo S xs
-  no-two-made R S h [] k = tt
-  no-two-made R S h (x ∷ xs) k = (every-imp (λ y n r. n (h y x r)) xs (every-made (λ y. ¬ R y (to x)) xs (k .0)), no-two-made R S h xs (k .1))
+  pub made-every : (P : B → Type 0) (xs : List A) → Every (λ x. P (to x)) xs → Every P (map to xs)
+  made-every P [] k = tt
+  made-every P (x ∷ xs) k = (k .0, made-every P xs (k .1))
 
 -- of a list's elements, by their places
 module _ {A : Type 0} (P : A → Type 0) where

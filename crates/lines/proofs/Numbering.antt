@@ -2,39 +2,32 @@
 -- line that is read has a byte. Assumes nothing.
 use Prim.Native.Nat.{ℕ, zero, suc, _+_, _≤_, _<_}
 use mathlib.Core.Path.{_≡_, refl, ap, _∙_, subst}
-use mathlib.Core.List.{List, [], _∷_, _++_, map}
+use mathlib.Core.List.{List, [], _∷_, _++_}
 use mathlib.Core.Option.{Option, none, some}
-use mathlib.Core.Bool.{Bool, true, false, cond, not, _&&_}
+use mathlib.Core.Bool.{Bool, true, false, cond}
 use native.Mathlib.Omega.{arith}
 use lib.ListN.{length, drop, getD, length-append}
 use lib.Dec.{ltb, eqb, lit<}
-use lib.Signed.{ltZ}
 use lib.IntN.{pos, natAbs}
 use borrow.Author.Tests.{ltb-false}
 use Rattle.text.specs.Bytes.{bytes}
 use Rattle.text.specs.Scanning.{upTo, begins}
 use Rattle.sheet.specs.declared.Refusal.{Refusal}
-use Rattle.sheet.specs.declared.Refusal.the-variants.{TooLong, NoLineFeed, WrongKey, WrongCount, NotANumber, Outside, Material, Shares, SectionTwice, NoSuchWall, ReadTwice, Missing, Colder, GasTotal}
+use Rattle.sheet.specs.declared.Refusal.the-variants.{TooLong, NoLineFeed, WrongKey, WrongCount, NotANumber, Outside}
 use Rattle.sheet.specs.Refusals.{number}
-use Rattle.sheet.specs.Shown.{same}
-use Rattle.lines.specs.Quantities.{gasTotal}
-use Rattle.lines.specs.Schema.{on, Field, Line, Row, plain, Judged, refused, values, unless, Numbers, none-at, all-are, onNumbers, within, pieces, numbersOf, formedBy, formed, outsideOf, ranged, judge, lineText}
-use Rattle.lines.specs.Reader.{Sheet, Rule, Part, one, many, countLine, Document, Read, stopped, got, Reader, andThen, judged, readLine, filled, readRows, readPart, readParts, readLines, Answer, Refused, Good, judgedWhole, readOf}
-use Rattle.lines.specs.Rules.{Every, sections, stages, walls}
-use Rattle.lines.specs.Document01.{_else_, when, free, alike, at, any, all, sumOf, weigh, airWeights, material-rule, gas-rule, section-rule, wall-rule, whole-rule, counted, isRead, below01, document01}
+use Rattle.lines.specs.Schema.{on, Field, Line, Row, plain, Judged, refused, values, unless, Numbers, none-at, all-are, onNumbers, pieces, numbersOf, formedBy, formed, outsideOf, ranged, judge, lineText}
+use Rattle.lines.specs.Reader.{Sheet, Rule, Part, one, many, ruleOf, countLine, Document, Read, stopped, got, Reader, andThen, judged, readLine, filled, readRows, readPart, readParts, readLines, Answer, Refused, Good, judgedWhole, readOf}
+use Rattle.lines.specs.Rows.{editionIn, stagesIn, sectionsIn, wallsIn}
+use Rattle.lines.specs.Rules.{Every}
+use Rattle.lines.specs.Document01.{entriesOf, document01}
+use Rattle.lines.proofs.Lists.{every-imp, made-every}
+use Rattle.lines.proofs.Rules.{Named, whole-asks}
+use Rattle.lines.proofs.Entries.{NamedRule, sheets}
 use Rattle.lines.proofs.Judged.{judge-values, line-length}
 
 -- ---- the number
-abbrev Named : Option Refusal → Type 0
-Named none = Unit {0}
-Named (some r) = 0 < number r
-
-abbrev NamedRule : Rule → Type 0
-NamedRule rule = (seen : Sheet) (row : Row) → Named (rule seen row)
-
 abbrev NamedPart : Part → Type 0
-NamedPart (one l rule) = NamedRule rule
-NamedPart (many key a b l rule) = NamedRule rule
+NamedPart p = NamedRule (ruleOf p)
 
 pub record NamedDocument (d : Document) : Type 0 where
   pub first : NamedPart (d .first)
@@ -153,46 +146,12 @@ heard d named text = here (ltb 16384 (length text)) refl
     here false q = whole-heard d named (readLines d 1 text) (lines-reached d named 1 text 16385 (omega (arith, ltb-false 16384 (length text) q)))
 
 -- ---- document 01
-when-named : (t : Bool) (r : Refusal) → 0 < number r → Named (when t r)
-when-named true r h = h
-when-named false r h = tt
-
-free-named : NamedRule free
-free-named seen row = tt
-
-material-named : (i : ℕ) → NamedRule (material-rule i)
-material-named i seen row = when-named (alike (same (pos 0) (at row i)) (same (pos 0) (at row (i + 1)))) (Material (i + 1)) (lit< tt)
-
-gas-named : NamedRule gas-rule
-gas-named seen row = when-named (not (same (sumOf (row .numbers)) (pos 10000) && ltZ (pos 0) (weigh airWeights (row .numbers)))) Shares (lit< tt)
-
-section-named : NamedRule section-rule
-section-named seen row = when-named (any (λ r. same (at r 0) (at row 0)) (sections seen)) SectionTwice (lit< tt)
-
-wall-named : NamedRule wall-rule
-wall-named seen row = here (not (any (λ r. same (at r 0) (at row 0)) (sections seen))) (ltZ (pos (length (stages seen))) (at row 1)) (any (λ r. same (at r 0) (at row 0) && same (at r 1) (at row 1)) (walls seen))
-  where
-    here : (a b c : Bool) → Named (when a NoSuchWall else when b NoSuchWall else when c ReadTwice else when (ltZ (at row 2) (at row 3)) Colder)
-    here true b c = lit< tt
-    here false true c = lit< tt
-    here false false true = lit< tt
-    here false false false = when-named (ltZ (at row 2) (at row 3)) Colder (lit< tt)
-
-whole-named : (sheet : Sheet) → Named (whole-rule sheet)
-whole-named sheet = here (not (within gasTotal (sumOf (map (λ r. at r 0) (stages sheet))))) (not (all (λ r. all (isRead sheet (at r 0)) (counted (length (stages sheet)))) (sections sheet)))
-  where
-    here : (a b : Bool) → Named (when a GasTotal else when b Missing)
-    here true b = lit< tt
-    here false b = when-named b Missing (lit< tt)
-
-below-named : Every NamedPart below01
-unfolding below01
-below-named =
-    let f = free-named in
-    (f, (f, (f, (f, (gas-named, (f, (material-named 3, (f, (f, (f, (material-named 2, (material-named 1, (section-named, (wall-named, (f, tt)))))))))))))))
-
 named01 : NamedDocument document01
-named01 = record { first = free-named; below = λ seen. below-named; whole = whole-named }
+named01 = record {
+  first = λ seen row. tt;
+  below = λ seen. made-every (λ e. e .part) NamedPart (entriesOf (editionIn seen)) (every-imp (λ e h. h .named) (entriesOf (editionIn seen)) (sheets (editionIn seen) .groups .each .1));
+  whole = λ s. whole-asks (stagesIn s) (sectionsIn s) (wallsIn s) .named;
+}
 
 pub refuses : (text : List ℕ) (x : Refusal) (n : ℕ) → readOf document01 text ≡ Refused x n → Refuses x n
 refuses text x n e = subst Heard e (heard document01 named01 text)

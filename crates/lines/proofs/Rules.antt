@@ -1,6 +1,6 @@
--- Each rule's test says what the plain rule says: a test that tells whether P, and then a refusal that asks for P.
+-- Each rule's test says what the plain rule says: a test that tells whether P, and then a refusal that asks for P, and has a number.
 -- Assumes nothing.
-use Prim.Native.Nat.{ℕ, zero, suc, _+_, _≤_}
+use Prim.Native.Nat.{ℕ, zero, suc, _+_, _≤_, _<_}
 use mathlib.Core.Path.{_≡_, refl, sym, ap}
 use mathlib.Core.List.{List, [], _∷_, map}
 use mathlib.Core.Logic.{_⊎_, inl, inr, ⊎-elim}
@@ -8,18 +8,20 @@ use mathlib.Core.Option.{Option, none, some}
 use mathlib.Core.Bool.{Bool, true, false, _&&_, _||_, not}
 use native.Mathlib.Omega.{arith}
 use lib.ListN.{length}
-use lib.Dec.{T, leb, eqb}
+use lib.Dec.{T, leb, eqb, lit<}
 use lib.IntN.{ℤ, pos, negsuc}
 use lib.Signed.{leZ, ltZ, _≤ℤ_, _<ℤ_}
 use borrow.Author.Tests.{leb-true, le-leb, eqb-true, eqb-false}
 use Rattle.sheet.specs.declared.Refusal.{Refusal}
 use Rattle.sheet.specs.declared.Refusal.the-variants.{Material, Shares, SectionTwice, NoSuchWall, ReadTwice, Missing, Colder, GasTotal}
+use Rattle.sheet.specs.Refusals.{number}
 use Rattle.sheet.specs.Shown.{same}
-use Rattle.lines.specs.Schema.{Row, within}
+use Rattle.sheet.specs.Firing.{Stage, Section, Wall}
+use Rattle.lines.specs.Schema.{Row, at, within}
 use Rattle.lines.specs.Reader.{Sheet}
 use Rattle.lines.specs.Quantities.{gasTotal}
-use Rattle.lines.specs.Document01.{at, alike, any, all, sumOf, weigh, airWeights, counted, isRead, when, _else_, material-rule, gas-rule, section-rule, wall-rule, whole-rule}
-use Rattle.lines.specs.Rules.{Some, Every, sections, walls, stages, MaterialKeeps, GasKeeps, SectionKeeps, Listed, Staged, SameReading, WallKeeps, IsRead, AllRead, TotalKeeps}
+use Rattle.lines.specs.Document01.{alike, any, all, sumOf, weigh, airWeights, counted, isListed, isRead, when, _else_, material-rule, gas-rule, sectionFault, wallFault, wholeFault}
+use Rattle.lines.specs.Rules.{Some, Every, MaterialKeeps, GasKeeps, SameNumber, Listed, Staged, SameReading, WallKeeps, IsRead, AllRead, TotalKeeps}
 use Rattle.lines.proofs.Cases.{clash, both}
 
 -- A TEST THAT TELLS WHETHER P
@@ -101,85 +103,96 @@ module _ {f : ℤ → Bool} {P : ℤ → Type 0} (h : (z : ℤ) → Tests (f z) 
   tests-counted : (k : ℕ) → Tests (all f (counted k)) ((j : ℕ) → 1 ≤ j → j ≤ k → P (pos j))
   tests-counted k = record { yes = counted-all k; back = all-counted k }
 
--- A RULE THAT ASKS FOR P
+-- A RULE THAT ASKS FOR P, and hears a number of document 01 else, never 0
+abbrev pub Named : Option Refusal → Type 0
+Named none = Unit {0}
+Named (some r) = 0 < number r
+
 pub record Asks (o : Option Refusal) (P : Type 0) : Type 0 where
   pub to : o ≡ none → P
   pub from : P → o ≡ none
+  pub named : Named o
 
-asks-not : {t : Bool} {P : Type 0} (r : Refusal) → Tests t P → Asks (when t r) (¬ P)
-asks-not {t = true} r h = record { to = λ e. clash cc; from = λ n. absurd (n (h .yes refl)) }
-asks-not {t = false} r h = record { to = λ e p. let z = h .back p in clash cc; from = λ n. refl }
+asks-not : {t : Bool} {P : Type 0} (r : Refusal) → 0 < number r → Tests t P → Asks (when t r) (¬ P)
+asks-not {t = true} r m h = record { to = λ e. clash cc; from = λ n. absurd (n (h .yes refl)); named = m }
+asks-not {t = false} r m h = record { to = λ e p. let z = h .back p in clash cc; from = λ n. refl; named = tt }
 
-asks : {t : Bool} {P : Type 0} (r : Refusal) → Tests t P → Asks (when (not t) r) P
-asks {t = true} r h = record { to = λ e. h .yes refl; from = λ p. refl }
-asks {t = false} r h = record { to = λ e. clash cc; from = λ p. let z = h .back p in clash cc }
+asks : {t : Bool} {P : Type 0} (r : Refusal) → 0 < number r → Tests t P → Asks (when (not t) r) P
+asks {t = true} r m h = record { to = λ e. h .yes refl; from = λ p. refl; named = tt }
+asks {t = false} r m h = record { to = λ e. clash cc; from = λ p. let z = h .back p in clash cc; named = m }
 
 asks-else : {a b : Option Refusal} {P Q : Type 0} → Asks a P → Asks b Q → Asks (a else b) (P × Q)
-asks-else {a = none} x y = record { to = λ e. (x .to refl, y .to e); from = λ h. y .from (h .1) }
-asks-else {a = some r} x y = record { to = λ e. clash cc; from = λ h. x .from (h .0) }
+asks-else {a = none} x y = record { to = λ e. (x .to refl, y .to e); from = λ h. y .from (h .1); named = y .named }
+asks-else {a = some r} x y = record { to = λ e. clash cc; from = λ h. x .from (h .0); named = x .named }
 
 -- THE RULES
 pub material-asks : (i : ℕ) (seen : Sheet) (row : Row) → Asks (material-rule i seen row) (MaterialKeeps i row)
 material-asks i seen row = here (same (pos 0) (at row i)) (same (pos 0) (at row (i + 1))) (tests-same (pos 0) (at row i)) (tests-same (pos 0) (at row (i + 1)))
   where
     here : (a b : Bool) → Tests a (pos 0 ≡ at row i) → Tests b (pos 0 ≡ at row (i + 1)) → Asks (when (alike a b) (Material (i + 1))) (MaterialKeeps i row)
-    here true true x y = record { to = λ e. clash cc; from = λ h. absurd (⊎-elim (λ p. p .1 (sym (y .yes refl))) (λ p. p .0 (sym (x .yes refl))) h) }
-    here true false x y = record { to = λ e. inl (sym (x .yes refl), λ p. let z = y .back (sym p) in clash cc); from = λ h. refl }
-    here false true x y = record { to = λ e. inr (λ p. let z = x .back (sym p) in clash cc, sym (y .yes refl)); from = λ h. refl }
-    here false false x y = record { to = λ e. clash cc; from = λ h. ⊎-elim (λ p. let z = x .back (sym (p .0)) in clash cc) (λ p. let z = y .back (sym (p .1)) in clash cc) h }
+    here true true x y = record { to = λ e. clash cc; from = λ h. absurd (⊎-elim (λ p. p .1 (sym (y .yes refl))) (λ p. p .0 (sym (x .yes refl))) h); named = lit< tt }
+    here true false x y = record { to = λ e. inl (sym (x .yes refl), λ p. let z = y .back (sym p) in clash cc); from = λ h. refl; named = tt }
+    here false true x y = record { to = λ e. inr (λ p. let z = x .back (sym p) in clash cc, sym (y .yes refl)); from = λ h. refl; named = tt }
+    here false false x y = record { to = λ e. clash cc; from = λ h. ⊎-elim (λ p. let z = x .back (sym (p .0)) in clash cc) (λ p. let z = y .back (sym (p .1)) in clash cc) h; named = lit< tt }
 
 pub gas-asks : (seen : Sheet) (row : Row) → Asks (gas-rule seen row) (GasKeeps row)
-gas-asks seen row = asks Shares (tests-and (tests-same (sumOf (row .numbers)) (pos 10000)) (tests-lt (pos 0) (weigh airWeights (row .numbers))))
+gas-asks seen row = asks Shares (lit< tt) (tests-and (tests-same (sumOf (row .numbers)) (pos 10000)) (tests-lt (pos 0) (weigh airWeights (row .numbers))))
 
-listed : (seen : Sheet) (row : Row) → Tests (any (λ r. same (at r 0) (at row 0)) (sections seen)) (Listed seen row)
-listed seen row = tests-any (λ r. tests-same (at r 0) (at row 0)) (sections seen)
+pub listed-test : (sections : List Section) (number : ℤ) → Tests (isListed sections number) (Some (λ x. x .number ≡ number) sections)
+listed-test sections number = tests-any (λ x. tests-same (x .number) number) sections
 
-pub section-asks : (seen : Sheet) (row : Row) → Asks (section-rule seen row) (SectionKeeps seen row)
-section-asks seen row = asks-not SectionTwice (listed seen row)
+pub section-asks : (above : List Section) (x : Section) → Asks (sectionFault above x) (¬ Some (SameNumber x) above)
+section-asks above x = asks-not SectionTwice (lit< tt) (listed-test above (x .number))
 
-read-at : (sheet : Sheet) (section stage : ℤ) → Tests (isRead sheet section stage) (IsRead sheet section stage)
-read-at sheet section stage = tests-any (λ w. tests-and (tests-same (at w 0) section) (tests-same (at w 1) stage)) (walls sheet)
+pub read-test : (walls : List Wall) (section stage : ℤ) → Tests (isRead walls section stage) (IsRead walls section stage)
+read-test walls section stage = tests-any (λ w. tests-and (tests-same (w .section) section) (tests-same (w .stage) stage)) walls
 
-pub wall-asks : (seen : Sheet) (row : Row) → Asks (wall-rule seen row) (WallKeeps seen row)
-wall-asks seen row =
-    let there = asks-not NoSuchWall (tests-lt (pos (length (stages seen))) (at row 1)) in
-    let fresh = asks-not ReadTwice (read-at seen (at row 0) (at row 1)) in
-    asks-else (asks NoSuchWall (listed seen row)) (asks-else there (asks-else fresh (asks-not Colder (tests-lt (at row 2) (at row 3)))))
-
-module _ (sheet : Sheet) where
-  total-test : Tests (within gasTotal (sumOf (map (λ r. at r 0) (stages sheet)))) (TotalKeeps sheet)
-  total-test = let total = sumOf (map (λ r. at r 0) (stages sheet)) in tests-and (tests-le (gasTotal .least) total) (tests-le total (gasTotal .greatest))
-
-  read-test : Tests (all (λ r. all (isRead sheet (at r 0)) (counted (length (stages sheet)))) (sections sheet)) (AllRead sheet)
-  read-test = tests-all (λ r. tests-counted (read-at sheet (at r 0)) (length (stages sheet))) (sections sheet)
-
-  pub whole-asks : Asks (whole-rule sheet) (TotalKeeps sheet × AllRead sheet)
-  whole-asks = asks-else (asks GasTotal total-test) (asks Missing read-test)
-
--- WHAT IS HEARD where more than one rule is broken: of a reading 6 before 7 before 9, of the whole sheet 10 before 8
+-- OF A READING, and what is heard where more than one rule is broken: 6 before 7 before 9
 tests-no : {t : Bool} {P : Type 0} → Tests t P → ¬ P → t ≡ false
 tests-no {t = true} h n = absurd (n (h .yes refl))
 tests-no {t = false} h n = refl
 
-module _ (seen : Sheet) (row : Row) where
-  staged : Staged seen row → ltZ (pos (length (stages seen))) (at row 1) ≡ false
-  staged s = tests-no (tests-lt (pos (length (stages seen))) (at row 1)) s
+module _ (stages : List Stage) (sections : List Section) (above : List Wall) (w : Wall) where
+  listed : Tests (isListed sections (w .section)) (Listed sections w)
+  listed = listed-test sections (w .section)
 
-  pub unlisted-heard : ¬ Listed seen row → wall-rule seen row ≡ some NoSuchWall
-  unlisted-heard n = rw (tests-no (listed seen row) n)
+  beyond : Tests (ltZ (pos (length stages)) (w .stage)) (pos (length stages) <ℤ w .stage)
+  beyond = tests-lt (pos (length stages)) (w .stage)
 
-  pub unstaged-heard : Listed seen row → pos (length (stages seen)) <ℤ at row 1 → wall-rule seen row ≡ some NoSuchWall
-  unstaged-heard l h = rw (listed seen row .back l, tests-lt (pos (length (stages seen))) (at row 1) .back h)
+  again : Tests (isRead above (w .section) (w .stage)) (Some (SameReading w) above)
+  again = read-test above (w .section) (w .stage)
 
-  pub twice-heard : Listed seen row → Staged seen row → Some (SameReading row) (walls seen) → wall-rule seen row ≡ some ReadTwice
-  twice-heard l s r = rw (listed seen row .back l, staged s, read-at seen (at row 0) (at row 1) .back r)
+  colder : Tests (ltZ (w .surface) (w .air)) (w .surface <ℤ w .air)
+  colder = tests-lt (w .surface) (w .air)
 
-  pub colder-heard : Listed seen row → Staged seen row → ¬ Some (SameReading row) (walls seen) → at row 2 <ℤ at row 3 → wall-rule seen row ≡ some Colder
-  colder-heard l s n c = rw (listed seen row .back l, staged s, tests-no (read-at seen (at row 0) (at row 1)) n, tests-lt (at row 2) (at row 3) .back c)
+  pub wall-asks : Asks (wallFault stages sections above w) (WallKeeps stages sections above w)
+  wall-asks = asks-else (asks NoSuchWall (lit< tt) listed) (asks-else (asks-not NoSuchWall (lit< tt) beyond) (asks-else (asks-not ReadTwice (lit< tt) again) (asks-not Colder (lit< tt) colder)))
 
-module _ (sheet : Sheet) where
-  pub total-heard : ¬ TotalKeeps sheet → whole-rule sheet ≡ some GasTotal
-  total-heard n = rw (tests-no (total-test sheet) n)
+  pub unlisted-heard : ¬ Listed sections w → wallFault stages sections above w ≡ some NoSuchWall
+  unlisted-heard n = rw (tests-no listed n)
 
-  pub missing-heard : TotalKeeps sheet → ¬ AllRead sheet → whole-rule sheet ≡ some Missing
-  missing-heard t n = rw (total-test sheet .back t, tests-no (read-test sheet) n)
+  pub unstaged-heard : Listed sections w → pos (length stages) <ℤ w .stage → wallFault stages sections above w ≡ some NoSuchWall
+  unstaged-heard l h = rw (listed .back l, beyond .back h)
+
+  pub twice-heard : Listed sections w → Staged stages w → Some (SameReading w) above → wallFault stages sections above w ≡ some ReadTwice
+  twice-heard l s r = rw (listed .back l, tests-no beyond s, again .back r)
+
+  pub colder-heard : Listed sections w → Staged stages w → ¬ Some (SameReading w) above → w .surface <ℤ w .air → wallFault stages sections above w ≡ some Colder
+  colder-heard l s n c = rw (listed .back l, tests-no beyond s, tests-no again n, colder .back c)
+
+-- OF THE WHOLE SHEET, and 10 before 8
+module _ (stages : List Stage) (sections : List Section) (walls : List Wall) where
+  total-test : Tests (within gasTotal (sumOf (map (λ x. x .gas) stages))) (TotalKeeps stages)
+  total-test = let total = sumOf (map (λ x. x .gas) stages) in tests-and (tests-le (gasTotal .least) total) (tests-le total (gasTotal .greatest))
+
+  all-read-test : Tests (all (λ x. all (isRead walls (x .number)) (counted (length stages))) sections) (AllRead stages sections walls)
+  all-read-test = tests-all (λ x. tests-counted (read-test walls (x .number)) (length stages)) sections
+
+  pub whole-asks : Asks (wholeFault stages sections walls) (TotalKeeps stages × AllRead stages sections walls)
+  whole-asks = asks-else (asks GasTotal (lit< tt) total-test) (asks Missing (lit< tt) all-read-test)
+
+  pub total-heard : ¬ TotalKeeps stages → wholeFault stages sections walls ≡ some GasTotal
+  total-heard n = rw (tests-no total-test n)
+
+  pub missing-heard : TotalKeeps stages → ¬ AllRead stages sections walls → wholeFault stages sections walls ≡ some Missing
+  missing-heard t n = rw (total-test .back t, tests-no all-read-test n)

@@ -3,9 +3,9 @@ use Prim.Native.Nat.{ℕ, _+_, _*_}
 use mathlib.Core.Path.{_≡_}
 use mathlib.Core.List.{List, [], _∷_, _++_}
 use mathlib.Core.Option.{Option}
-use mathlib.Core.Bool.{Bool, true, _&&_}
+use mathlib.Core.Bool.{Bool, true, false, cond, _&&_}
 use lib.ListN.{length}
-use lib.Dec.{leb}
+use lib.Dec.{leb, eqb}
 use lib.IntN.{pos}
 use Rattle.sheet.specs.declared.Refusal.{Refusal}
 use Rattle.lines.specs.Schema.{Field, Line, Row, plain, lineText, sound}
@@ -18,6 +18,16 @@ pub record Filled : Type 0 where
 abbrev pub Sheet : Type 0
 Sheet = List Filled
 
+abbrev pub sameKey : List ℕ → List ℕ → Bool
+sameKey [] [] = true
+sameKey [] (b ∷ bs) = false
+sameKey (a ∷ as′) [] = false
+sameKey (a ∷ as′) (b ∷ bs) = eqb a b && sameKey as′ bs
+
+abbrev pub rowsOf : List ℕ → Sheet → List Row
+rowsOf k [] = []
+rowsOf k (f ∷ fs) = cond (sameKey k (f .key)) (f .rows) (rowsOf k fs)
+
 -- what a line must keep beyond form and range, given all that stands above it
 abbrev pub Rule : Type 0
 Rule = Sheet → Row → Option Refusal
@@ -26,6 +36,17 @@ Rule = Sheet → Row → Option Refusal
 pub data Part : Type 0 where
   one : Line → Rule → Part
   many : List ℕ → ℕ → ℕ → Line → Rule → Part
+
+abbrev pub lineOf : Part → Line
+lineOf (one l rule) = l
+lineOf (many key a b l rule) = l
+
+abbrev pub ruleOf : Part → Rule
+ruleOf (one l rule) = rule
+ruleOf (many key a b l rule) = rule
+
+abbrev pub keyOf : Part → List ℕ
+keyOf p = lineOf p .key
 
 -- from a to b, both whole numbers
 abbrev pub to : ℕ → ℕ → Field

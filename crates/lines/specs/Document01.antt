@@ -1,25 +1,25 @@
 -- Document 01's sheet: its lines in their order, the ranges of their fields, and what else a line must keep.
 use Prim.Native.Nat.{ℕ, zero, suc, _+_}
 use Prim.Native.String.{String}
-use mathlib.Core.List.{List, [], _∷_, map}
+use mathlib.Core.List.{List, [], _∷_, _++_, map}
 use mathlib.Core.Option.{Option, none, some}
-use mathlib.Core.Bool.{Bool, true, false, cond, _&&_, _||_, not}
-use lib.ListN.{length, getD, replicate}
-use lib.Dec.{eqb}
+use mathlib.Core.Bool.{Bool, true, false, _&&_, _||_, not}
+use lib.ListN.{length, replicate}
 use lib.IntN.{ℤ, pos, negsuc, _+ℤ_, _*ℤ_}
 use lib.Signed.{ltZ}
 use Rattle.text.specs.Bytes.{bytes}
 use Rattle.sheet.specs.declared.Refusal.{Refusal}
 use Rattle.sheet.specs.declared.Refusal.the-variants.{Material, Shares, SectionTwice, NoSuchWall, ReadTwice, Missing, Colder, GasTotal}
 use Rattle.sheet.specs.Shown.{same}
-use Rattle.lines.specs.Schema.{Field, Line, Row, within}
-use Rattle.lines.specs.Reader.{Sheet, Rule, Part, one, many, Document}
-use Rattle.lines.specs.Quantities.{edition, firing, product, ambient, heating, fuelTemperature, share, moisture, mass, temperature, material, capacity, flue, cubicMetres, excess, monoxide, minutes, sectionNumber, place, area, stageNumber, surface, nearAir, gasTotal}
+use Rattle.sheet.specs.Firing.{Stage, Section, Wall, Firing}
+use Rattle.lines.specs.Schema.{Field, Line, Row, plain, within}
+use Rattle.lines.specs.Reader.{Filled, Rule, Part, one, many, keyOf, Document}
+use Rattle.lines.specs.Quantities.{edition, firing, product, ambient, heating, fuelTemperature, share, moisture, mass, temperature, material, capacity, flue, cubicMetres, excess, monoxide, minutes, sectionNumber, place, area, stageNumber, surface, nearAir, gasTotal, closing}
+use Rattle.lines.specs.Rows.{fuelRow, gasRow, wareRow, waterRow, stageRow, setterRow, partRow, sectionRow, sectionOf, wallRow, editionIn, stagesIn, sectionsIn, wallAs, wallsIn}
+pub use Rattle.lines.specs.Schema.{at}
+pub use Rattle.lines.specs.Reader.{Sheet, sameKey, rowsOf}
 
 -- RULES
-abbrev pub at : Row → ℕ → ℤ
-at row i = getD (row .numbers) i (pos 0)
-
 abbrev pub any : {A : Type 0} → (A → Bool) → List A → Bool
 any f [] = false
 any f (x ∷ xs) = f x || any f xs
@@ -31,16 +31,6 @@ all f (x ∷ xs) = f x && all f xs
 abbrev pub alike : Bool → Bool → Bool
 alike true b = b
 alike false b = not b
-
-abbrev pub sameKey : List ℕ → List ℕ → Bool
-sameKey [] [] = true
-sameKey [] (b ∷ bs) = false
-sameKey (a ∷ as′) [] = false
-sameKey (a ∷ as′) (b ∷ bs) = eqb a b && sameKey as′ bs
-
-abbrev pub rowsOf : List ℕ → Sheet → List Row
-rowsOf k [] = []
-rowsOf k (f ∷ fs) = cond (sameKey k (f .key)) (f .rows) (rowsOf k fs)
 
 abbrev pub sumOf : List ℤ → ℤ
 sumOf [] = pos 0
@@ -76,16 +66,41 @@ abbrev pub gas-rule : Rule
 gas-rule seen row = when (not (same (sumOf (row .numbers)) (pos 10000) && ltZ (pos 0) (weigh airWeights (row .numbers)))) Shares
 
 -- 6: a section number stands twice
+abbrev pub isListed : List Section → ℤ → Bool
+isListed sections number = any (λ x. same (x .number) number) sections
+
+abbrev pub sectionFault : List Section → Section → Option Refusal
+sectionFault above x = when (isListed above (x .number)) SectionTwice
+
 abbrev pub section-rule : Rule
-section-rule seen row = when (any (λ r. same (at r 0) (at row 0)) (rowsOf (bytes "section") seen)) SectionTwice
+section-rule seen row = sectionFault (sectionsIn seen) (sectionOf row)
 
 -- 6: no such section or stage; 7: read already; 9: colder than the air near it
+abbrev pub isRead : List Wall → ℤ → ℤ → Bool
+isRead walls section stage = any (λ w. same (w .section) section && same (w .stage) stage) walls
+
+abbrev pub wallFault : List Stage → List Section → List Wall → Wall → Option Refusal
+wallFault stages sections above w =
+    when (not (isListed sections (w .section))) NoSuchWall
+    else when (ltZ (pos (length stages)) (w .stage)) NoSuchWall
+    else when (isRead above (w .section) (w .stage)) ReadTwice
+    else when (ltZ (w .surface) (w .air)) Colder
+
 abbrev pub wall-rule : Rule
-wall-rule seen row =
-    when (not (any (λ r. same (at r 0) (at row 0)) (rowsOf (bytes "section") seen))) NoSuchWall
-    else when (ltZ (pos (length (rowsOf (bytes "stage") seen))) (at row 1)) NoSuchWall
-    else when (any (λ r. same (at r 0) (at row 0) && same (at r 1) (at row 1)) (rowsOf (bytes "wall") seen)) ReadTwice
-    else when (ltZ (at row 2) (at row 3)) Colder
+wall-rule seen row = wallFault (stagesIn seen) (sectionsIn seen) (wallsIn seen) (wallAs (editionIn seen) row)
+
+-- of the whole sheet: 10, the gas of all stages; 8, a reading for every section in every stage
+abbrev pub counted : ℕ → List ℤ
+counted zero = []
+counted (suc n) = pos (suc n) ∷ counted n
+
+abbrev pub wholeFault : List Stage → List Section → List Wall → Option Refusal
+wholeFault stages sections walls =
+    when (not (within gasTotal (sumOf (map (λ x. x .gas) stages)))) GasTotal
+    else when (not (all (λ x. all (isRead walls (x .number)) (counted (length stages))) sections)) Missing
+
+abbrev pub whole-rule : Sheet → Option Refusal
+whole-rule s = wholeFault (stagesIn s) (sectionsIn s) (wallsIn s)
 
 -- THE LINES, as in document 01's table
 abbrev pub line : String → List Field → Line
@@ -137,39 +152,71 @@ abbrev pub wallLine : Line
 wallLine = line "wall" (sectionNumber ∷ stageNumber ∷ surface ∷ nearAir ∷ [])
 
 abbrev pub endLine : Line
-endLine = line "end" (edition ∷ [])
+endLine = line "end" (closing ∷ [])
 
-unfoldable pub below01 : List Part
-below01 =
-    one firingLine free
-    ∷ one productLine free
-    ∷ one ambientLine free
-    ∷ one fuelLine free
-    ∷ one gasLine gas-rule
-    ∷ one airLine free
-    ∷ one wareLine (material-rule 3)
-    ∷ one waterLine free
-    ∷ one clayLine free
-    ∷ many (bytes "stages") 1 12 stageLine free
-    ∷ many (bytes "setters") 0 32 setterLine (material-rule 2)
-    ∷ many (bytes "parts") 0 32 partLine (material-rule 1)
-    ∷ many (bytes "sections") 1 12 sectionLine section-rule
-    ∷ many (bytes "walls") 0 48 wallLine wall-rule
-    ∷ one endLine free
+-- AN ENTRY: a part of the sheet, and what a firing says there
+pub record Entry : Type 0 where
+  pub part : Part
+  pub says : Firing → List Row
+
+abbrev pub single : Line → Rule → (Firing → Row) → Entry
+single l rule says = record { part = one l rule; says = λ f. says f ∷ [] }
+
+abbrev pub figure : Line → (Firing → ℤ) → Entry
+figure l says = single l free (λ f. plain (says f ∷ []))
+
+abbrev pub block : String → ℕ → ℕ → Line → Rule → (Firing → List Row) → Entry
+block key a b l rule says = record { part = many (bytes key) a b l rule; says = says }
+
+-- THE ENTRIES of document 01's table, in groups that another sheet can exchange
+abbrev pub opening : Entry
+opening = figure sheetLine (λ f. f .edition)
+
+abbrev pub heading : List Entry
+heading = figure firingLine (λ f. f .number) ∷ figure productLine (λ f. f .product) ∷ figure ambientLine (λ f. f .ambient) ∷ []
+
+abbrev pub burning : List Entry
+burning = single fuelLine free (λ f. fuelRow (f .fuel)) ∷ single gasLine gas-rule (λ f. gasRow (f .gas)) ∷ []
+
+abbrev pub drying : List Entry
+drying =
+    figure airLine (λ f. f .moisture)
+    ∷ single wareLine (material-rule 3) (λ f. wareRow (f .ware))
+    ∷ single waterLine free (λ f. waterRow (f .water))
+    ∷ figure clayLine (λ f. f .clay)
     ∷ []
 
--- OF THE WHOLE SHEET: 10, the gas of all stages; 8, a reading for every section in every stage
-abbrev pub counted : ℕ → List ℤ
-counted zero = []
-counted (suc n) = pos (suc n) ∷ counted n
+abbrev pub staging : List Entry
+staging = block "stages" 1 12 stageLine free (λ f. map stageRow (f .stages)) ∷ []
 
-abbrev pub isRead : Sheet → ℤ → ℤ → Bool
-isRead sheet section stage = any (λ r. same (at r 0) section && same (at r 1) stage) (rowsOf (bytes "wall") sheet)
+abbrev pub loading : List Entry
+loading =
+    block "setters" 0 32 setterLine (material-rule 2) (λ f. map setterRow (f .setters))
+    ∷ block "parts" 0 32 partLine (material-rule 1) (λ f. map partRow (f .parts))
+    ∷ []
 
-abbrev pub whole-rule : Sheet → Option Refusal
-whole-rule sheet =
-    when (not (within gasTotal (sumOf (map (λ r. at r 0) (rowsOf (bytes "stage") sheet))))) GasTotal
-    else when (not (all (λ r. all (isRead sheet (at r 0)) (counted (length (rowsOf (bytes "stage") sheet)))) (rowsOf (bytes "section") sheet))) Missing
+abbrev pub surfaces : List Entry
+surfaces =
+    block "sections" 1 12 sectionLine section-rule (λ f. map sectionRow (f .sections))
+    ∷ block "walls" 0 48 wallLine wall-rule (λ f. map wallRow (f .walls))
+    ∷ []
+
+abbrev pub ending : List Entry
+ending = single endLine free (λ f. plain (pos 1 ∷ [])) ∷ []
+
+-- what stands below the first line, by the edition that it says
+unfoldable pub entriesOf : ℤ → List Entry
+entriesOf edition = heading ++ (burning ++ (drying ++ (staging ++ (loading ++ (surfaces ++ ending)))))
+
+abbrev pub partsOf : List Entry → List Part
+partsOf es = map (λ e. e .part) es
 
 abbrev pub document01 : Document
-document01 = record { first = one sheetLine free; below = λ seen. below01; whole = whole-rule }
+document01 = record { first = opening .part; below = λ seen. partsOf (entriesOf (editionIn seen)); whole = whole-rule }
+
+-- THE SHEET OF A FIRING
+abbrev pub fill : Firing → Entry → Filled
+fill f e = record { key = keyOf (e .part); rows = e .says f }
+
+abbrev pub sheetOf : Firing → Sheet
+sheetOf f = map (fill f) (opening ∷ entriesOf (f .edition))

@@ -1,6 +1,6 @@
 -- What holds of a firing that keeps document 01's rules, by name: the form in which the formulas' proofs use them. Nothing here is believed:
 -- `limits` derives it from the rules.
-use Prim.Native.Nat.{ℕ, _≤_}
+use Prim.Native.Nat.{_≤_}
 use mathlib.Core.Path.{_≡_}
 use mathlib.Core.List.{List, map}
 use lib.ListN.{length}
@@ -10,7 +10,7 @@ use Rattle.sheet.specs.Firing.{Stuff, Gas, Ware, Water, Stage, Setter, Part, Se
 use Rattle.lines.specs.Schema.{Field}
 use Rattle.lines.specs.Quantities.{product, ambient, heating, fuelTemperature, share, moisture, mass, temperature, material, capacity, flue, cubicMetres, excess, monoxide, minutes, sectionNumber, place, area, stageNumber, surface, nearAir, gasTotal}
 use Rattle.lines.specs.Document01.{sumOf, weigh, airWeights}
-use Rattle.lines.specs.Rules.{Some, Every, NoTwo}
+use Rattle.lines.specs.Rules.{Every, NoTwo, Listed, AllRead}
 use Rattle.lines.specs.Rows.{gasRow}
 
 pub record In (f : Field) (z : ℤ) : Type 0 where
@@ -67,7 +67,7 @@ pub record WallIn (f : Firing) (w : Wall) : Type 0 where
   pub stage : In stageNumber (w .stage)
   pub surface : In surface (w .surface)
   pub air : In nearAir (w .air)
-  pub listed : Some (λ x. x .number ≡ w .section) (f .sections)
+  pub listed : Listed (f .sections) w
   pub staged : w .stage ≤ℤ pos (length (f .stages))
   pub warmer : w .air ≤ℤ w .surface
 
@@ -100,4 +100,4 @@ pub record Limits (f : Firing) : Type 0 where
 
 -- every section has a reading in every stage, which are numbered from 1
 abbrev pub Measured : Firing → Type 0
-Measured f = Every (λ x. (j : ℕ) → 1 ≤ j → j ≤ length (f .stages) → Some (λ w. (w .section ≡ x .number) × (w .stage ≡ pos j)) (f .walls)) (f .sections)
+Measured f = AllRead (f .stages) (f .sections) (f .walls)

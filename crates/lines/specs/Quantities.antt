@@ -10,6 +10,9 @@ minus a b = record { least = negℤ (pos a); greatest = pos b }
 abbrev pub edition : Field
 edition = to 1 1
 
+abbrev pub closing : Field
+closing = to 1 1
+
 abbrev pub firing : Field
 firing = to 1 999999999
 

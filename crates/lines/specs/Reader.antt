@@ -10,7 +10,7 @@ use lib.IntN.{pos, natAbs}
 use Rattle.sheet.specs.declared.Refusal.{Refusal}
 use Rattle.sheet.specs.declared.Refusal.the-variants.{TooLong, Surplus}
 use Rattle.lines.specs.Schema.{on, Line, Row, plain, fits, Judged, refused, values, judge}
-pub use Rattle.lines.specs.Document.{Filled, Sheet, Rule, Part, one, many, to, countLine, Document, soundPart, soundParts, lineSize, partSize, partsSize, Sound, partText}
+pub use Rattle.lines.specs.Document.{Filled, Sheet, sameKey, rowsOf, Rule, Part, one, many, lineOf, ruleOf, keyOf, to, countLine, Document, soundPart, soundParts, lineSize, partSize, partsSize, Sound, partText}
 unfoldable pub use Rattle.lines.specs.Document.{rowsText, sheetText, textOf}
 
 -- READING: what was read, the number of the line that follows, and the text that is left; or a refusal with its line
@@ -94,11 +94,15 @@ abbrev pub PartKeeps : Part → Sheet → Filled → Type 0
 PartKeeps (one l rule) seen f = (f .key ≡ l .key) × (length (f .rows) ≡ 1) × RowsKeep l rule seen [] (f .rows)
 PartKeeps (many key a b l rule) seen f = (f .key ≡ l .key) × (fits (countLine key a b) (plain (pos (length (f .rows)) ∷ [])) ≡ true) × RowsKeep l rule seen [] (f .rows)
 
+-- part by part, given what stands above
+abbrev pub Along : (Part → Sheet → Filled → Type 0) → List Part → Sheet → Sheet → Type 0
+Along Q [] seen [] = Unit {0}
+Along Q [] seen (f ∷ fs) = ⊥
+Along Q (p ∷ ps) seen [] = ⊥
+Along Q (p ∷ ps) seen (f ∷ fs) = Q p seen f × Along Q ps (seen ++ (f ∷ [])) fs
+
 abbrev pub PartsKeep : List Part → Sheet → Sheet → Type 0
-PartsKeep [] seen [] = Unit {0}
-PartsKeep [] seen (f ∷ fs) = ⊥
-PartsKeep (p ∷ ps) seen [] = ⊥
-PartsKeep (p ∷ ps) seen (f ∷ fs) = PartKeeps p seen f × PartsKeep ps (seen ++ (f ∷ [])) fs
+PartsKeep = Along PartKeeps
 
 abbrev pub LinesKeep : Document → Sheet → Type 0
 LinesKeep d [] = ⊥

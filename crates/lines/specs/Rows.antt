@@ -1,13 +1,12 @@
--- A firing by name and its sheet by rows: the row of each record, the record of each row, and so of the whole sheet.
+-- A firing by name and its sheet by rows: the row of each record, the record of each row, and so the firing of a sheet.
 use Prim.Native.Nat.{ℕ}
 use Prim.Native.String.{String}
 use mathlib.Core.List.{List, [], _∷_, map}
-use lib.IntN.{ℤ, pos}
+use lib.IntN.{ℤ}
 use Rattle.text.specs.Bytes.{bytes}
 use Rattle.sheet.specs.Firing.{Stuff, Fuel, Gas, Ware, Water, Stage, Setter, Part, Section, Wall, Firing}
-use Rattle.lines.specs.Schema.{Row, plain}
-use Rattle.lines.specs.Reader.{Filled, Sheet}
-use Rattle.lines.specs.Document01.{at, rowsOf}
+use Rattle.lines.specs.Schema.{Row, plain, at}
+use Rattle.lines.specs.Reader.{Sheet, rowsOf}
 
 -- a record's row, and a row's record
 abbrev pub fuelRow : Fuel → Row
@@ -81,43 +80,36 @@ wallRow x = plain (x .section ∷ x .stage ∷ x .surface ∷ x .air ∷ [])
 abbrev pub wallOf : Row → Wall
 wallOf r = record { section = at r 0; stage = at r 1; surface = at r 2; air = at r 3 }
 
--- THE SHEET OF A FIRING, as in document 01's table
-abbrev pub one : ℤ → List Row
-one z = plain (z ∷ []) ∷ []
-
-abbrev pub under : String → List Row → Filled
-under key rows = record { key = bytes key; rows = rows }
-
-abbrev pub sheetOf : Firing → Sheet
-sheetOf f =
-    under "sheet" (one (pos 1))
-    ∷ under "firing" (one (f .number))
-    ∷ under "product" (one (f .product))
-    ∷ under "ambient" (one (f .ambient))
-    ∷ under "fuel" (fuelRow (f .fuel) ∷ [])
-    ∷ under "gas" (gasRow (f .gas) ∷ [])
-    ∷ under "air" (one (f .moisture))
-    ∷ under "ware" (wareRow (f .ware) ∷ [])
-    ∷ under "water" (waterRow (f .water) ∷ [])
-    ∷ under "clay" (one (f .clay))
-    ∷ under "stage" (map stageRow (f .stages))
-    ∷ under "setter" (map setterRow (f .setters))
-    ∷ under "part" (map partRow (f .parts))
-    ∷ under "section" (map sectionRow (f .sections))
-    ∷ under "wall" (map wallRow (f .walls))
-    ∷ under "end" (one (pos 1))
-    ∷ []
-
 -- WHAT A SHEET SAYS
 abbrev pub first : List Row → Row
 first [] = plain []
 first (row ∷ rows) = row
 
 abbrev pub rowUnder : String → Sheet → Row
-rowUnder key sheet = first (rowsOf (bytes key) sheet)
+rowUnder key s = first (rowsOf (bytes key) s)
+
+abbrev pub editionIn : Sheet → ℤ
+editionIn s = at (rowUnder "sheet" s) 0
+
+-- a row of a stage and of a reading, as an edition has it: all have the same columns so far
+abbrev pub stageAs : ℤ → Row → Stage
+stageAs edition r = stageOf r
+
+abbrev pub wallAs : ℤ → Row → Wall
+wallAs edition r = wallOf r
+
+abbrev pub stagesIn : Sheet → List Stage
+stagesIn s = map (stageAs (editionIn s)) (rowsOf (bytes "stage") s)
+
+abbrev pub sectionsIn : Sheet → List Section
+sectionsIn s = map sectionOf (rowsOf (bytes "section") s)
+
+abbrev pub wallsIn : Sheet → List Wall
+wallsIn s = map (wallAs (editionIn s)) (rowsOf (bytes "wall") s)
 
 abbrev pub firingOf : Sheet → Firing
 firingOf s = record {
+  edition = editionIn s;
   number = at (rowUnder "firing" s) 0;
   product = at (rowUnder "product" s) 0;
   ambient = at (rowUnder "ambient" s) 0;
@@ -127,9 +119,9 @@ firingOf s = record {
   ware = wareOf (rowUnder "ware" s);
   water = waterOf (rowUnder "water" s);
   clay = at (rowUnder "clay" s) 0;
-  stages = map stageOf (rowsOf (bytes "stage") s);
+  stages = stagesIn s;
   setters = map setterOf (rowsOf (bytes "setter") s);
   parts = map partOf (rowsOf (bytes "part") s);
-  sections = map sectionOf (rowsOf (bytes "section") s);
-  walls = map wallOf (rowsOf (bytes "wall") s);
+  sections = sectionsIn s;
+  walls = wallsIn s;
 }

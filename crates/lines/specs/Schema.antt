@@ -3,7 +3,7 @@ use Prim.Native.Nat.{ℕ, suc}
 use mathlib.Core.List.{List, [], _∷_, _++_, map}
 use mathlib.Core.Option.{Option, none, some}
 use mathlib.Core.Bool.{Bool, true, false, cond, _&&_}
-use lib.ListN.{length, drop}
+use lib.ListN.{length, getD, drop}
 use lib.Dec.{ltb, eqb}
 use lib.IntN.{ℤ, pos, negsuc}
 use lib.Signed.{leZ}
@@ -32,6 +32,10 @@ pub record Row : Type 0 where
 
 abbrev pub plain : List ℤ → Row
 plain zs = record { numbers = zs; name = [] }
+
+-- a row's i-th number, counted from 0
+abbrev pub at : Row → ℕ → ℤ
+at row i = getD (row .numbers) i (pos 0)
 
 -- THE TEXT OF A LINE: key=number,number,.. LF
 unfoldable pub joined : List (List ℕ) → List ℕ

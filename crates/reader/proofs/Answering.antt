@@ -16,12 +16,10 @@ use Rattle.sheet.specs.Shown.{Shows, stage}
 use Rattle.lines.specs.Schema.{on, within}
 use Rattle.lines.specs.Quantities.{gasTotal}
 use Rattle.lines.specs.Reader.{Sheet, Read, stopped, got, readLines, Answer, Refused, Good, judgedWhole, readOf}
-use Rattle.lines.specs.Document01.{at, all, counted, isRead, when, _else_, sumOf, document01}
-use Rattle.lines.specs.Rows.{stageOf, firingOf}
-use Rattle.lines.specs.Rules.{sections, stages}
+use Rattle.lines.specs.Document01.{all, counted, isRead, when, _else_, sumOf, document01}
+use Rattle.lines.specs.Rows.{stagesIn, sectionsIn, wallsIn, firingOf}
 use Rattle.lines.specs.Limits.{Limits}
-use Rattle.lines.proofs.Document01.{firing-kept}
-use Rattle.lines.proofs.Limits.{limits}
+use Rattle.lines.proofs.Document01.{firing-limits}
 use Rattle.walls.specs.Walls.{allRead}
 use Rattle.walls.proofs.Document.{missing-is}
 use Rattle.entries.specs.declared.Place.{Place}
@@ -37,18 +35,17 @@ map-twice g f [] = refl
 map-twice g f (x ∷ l) = ap (λ y. g (f x) ∷ y) (map-twice g f l)
 
 -- rule 10's sum, and rule 8's test, by the struct
-gas-same : {x : Sheetˢ} {sheet : Sheet} → Held x sheet → sumOf (map (λ r. at r 0) (stages sheet)) ≡ gasOf x
+gas-same : {x : Sheetˢ} {sheet : Sheet} → Held x sheet → sumOf (map (λ y. y .gas) (stagesIn sheet)) ≡ gasOf x
 gas-same {x} {sheet} h =
-    ap sumOf
-    (sym (map-twice (λ (y : Stage). y .gas) stageOf (stages sheet)) ∙ ap (λ (f : Firing). map (λ (y : Stage). y .gas) (f .stages)) (h .shows .lines) ∙ map-twice (λ (y : Stage). y .gas) stage (take (x .stages .count .0) (x .stages .lines)))
+    ap sumOf (ap (λ (f : Firing). map (λ (y : Stage). y .gas) (f .stages)) (h .shows .lines) ∙ map-twice (λ (y : Stage). y .gas) stage (take (x .stages .count .0) (x .stages .lines)))
 
 read-same : {x : Sheetˢ} {sheet : Sheet} → Held x sheet → Sized x
-    → all (λ r. all (isRead sheet (at r 0)) (counted (length (stages sheet)))) (sections sheet) ≡ allRead (x .readings) (x .sections .count .0) (x .stages .count .0)
+    → all (λ y. all (isRead (wallsIn sheet) (y .number)) (counted (length (stagesIn sheet)))) (sectionsIn sheet) ≡ allRead (x .readings) (x .sections .count .0) (x .stages .count .0)
 read-same {x} {sheet} h z =
-    let few : length (sections sheet) ≤ 12 = omega (arith, h .sectionsAre, z .sections) in
-    let short : length (stages sheet) ≤ 12 = omega (arith, h .stagesAre, z .stages) in
+    let few : length (sectionsIn sheet) ≤ 12 = omega (arith, h .sectionsAre, z .sections) in
+    let short : length (stagesIn sheet) ≤ 12 = omega (arith, h .stagesAre, z .stages) in
     missing-is sheet few (h .placed) short (h .distinct)
-    ∙ ap (λ (c : List Reading). allRead c (length (sections sheet)) (length (stages sheet))) (sym (h .shows .readings)) ∙ ap₂ (allRead (x .readings)) (h .sectionsAre) (h .stagesAre)
+    ∙ ap (λ (c : List Reading). allRead c (length (sectionsIn sheet)) (length (stagesIn sheet))) (sym (h .shows .readings)) ∙ ap₂ (allRead (x .readings)) (h .sectionsAre) (h .stagesAre)
 
 module _ {x : Sheetˢ} {sheet : Sheet} (h : Held x sheet) (z : Sized x) (q : Place) (sound : q .kind ≡ 0) where
   abbrev said-of : Bool → Bool → Answer
@@ -178,7 +175,7 @@ firm-judged s r h e = here (readOf document01 s) refl h
     here (Good sheet) g k = record { sheet = sheet; good = g; shows = k .1 }
 
 pub firm-limits : {s : List ℕ} {x : Sheetˢ} (a : Firm s x) → Limits (firingOf (a .sheet))
-firm-limits {s} a = limits (firingOf (a .sheet)) (firing-kept s (a .sheet) (a .good) .keeps)
+firm-limits {s} a = firing-limits s (a .sheet) (a .good)
 
 -- A REFUSED SHEET: document 01's refusal and line are those that the code finds
 pub refused-judged : (s : List ℕ) (r : Lines) → Judged (readOf document01 s) r → good (r .place) ≡ false → readOf document01 s ≡ Refused (reason (r .place)) (r .place .line)

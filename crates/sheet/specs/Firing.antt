@@ -72,8 +72,9 @@ pub record Wall : Type 0 where
   pub surface : ℤ
   pub air : ℤ
 
--- moisture of the air in 0.0001 kg per kg
+-- the edition of its sheet; moisture of the air in 0.0001 kg per kg
 pub record Firing : Type 0 where
+  pub edition : ℤ
   pub number : ℤ
   pub product : ℤ
   pub ambient : ℤ

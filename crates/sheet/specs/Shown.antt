@@ -70,6 +70,7 @@ section x = record { number = pos (x .number .0); place = pos (x .place .0); are
 -- the firing that a struct shows, but for the order in which its walls were called
 abbrev pub firing : Sheetˢ → List Wall → Firing
 firing x walls = record {
+  edition = pos (x .head .edition .0);
   number = x .head .firing .0;
   product = x .head .product .0;
   ambient = x .head .ambient .0;

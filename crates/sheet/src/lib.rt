@@ -15,6 +15,7 @@ use quantity::kiln::Place;
 use quantity::kiln::SectionNumber;
 use quantity::mass::Kilos;
 use quantity::mass::Product;
+use quantity::sheet::Edition;
 use quantity::sheet::FiringNumber;
 use quantity::sheet::PartCount;
 use quantity::sheet::SectionCount;
@@ -109,6 +110,7 @@ pub struct Reading {
 
 // The lines above the stages.
 pub struct Head {
+    pub edition: Edition,
     pub firing: FiringNumber,
     pub product: Product,
     pub ambient: Ambient,

@@ -8,7 +8,7 @@ use native.Mathlib.Numerals.{add-one}
 use native.Mathlib.Omega.{arith}
 use lib.Dec.{ltb, leb, le→leb}
 use lib.IntN.{pos, natAbs}
-use lib.ListN.{length, set, replicate, length-map}
+use lib.ListN.{length, set, replicate}
 use lib.Signed.{ltZ}
 use borrow.Author.Tests.{ltb-true}
 use Rattle.sheet.specs.declared.Reading.{Reading}
@@ -16,12 +16,12 @@ use Rattle.sheet.specs.Firing.{Section, Wall}
 use Rattle.sheet.specs.Shown.{before, cell, reading, laid, unread}
 use Rattle.text.specs.Bytes.{bytes}
 use Rattle.lines.specs.Schema.{Row}
-use Rattle.lines.specs.Document01.{at, when, wallLine, wall-rule}
+use Rattle.lines.specs.Document01.{when, wallLine, wall-rule}
 use Rattle.lines.specs.Limits.{In}
 use Rattle.lines.specs.Quantities.{stageNumber}
 use Rattle.lines.specs.Reader.{Sheet, filled, readLine, readRows}
-use Rattle.lines.specs.Rows.{sectionOf, wallOf}
-use Rattle.lines.specs.Rules.{Every, sections, stages, walls}
+use Rattle.lines.specs.Rows.{stageOf, sectionOf, wallOf, stagesIn, sectionsIn, wallsIn}
+use Rattle.lines.specs.Rules.{Every}
 use Rattle.lines.proofs.Cases.{clash}
 use Rattle.walls.specs.declared.Ruling.{Ruling}
 use Rattle.walls.specs.Walls.{rulingOf, readAt}
@@ -80,7 +80,7 @@ settled-passes q l r b h = let e = b .after .passes h in not-good (q .line) (l .
 pub settled-fair : {s : List ℕ} (q : Place) (l : WallLine) (r : Ruling) → WallAfter s q l → good (settled (q .line) (l .place) r) ≡ true → Fair s (settled (q .line) (l .place) r)
 settled-fair {s} q l r b = good-test (q .line) (l .place) (r .why) s (good (l .place) && r .broken) (b .after .fair)
 
-module _ (s : List ℕ) (S : List Section) (k : ℕ) (few : length S ≤ 12) (seen : Sheet) (none-yet : lacks (bytes "wall") seen ≡ true) (above : map sectionOf (sections seen) ≡ S) (so-many : length (stages seen) ≡ k) where
+module _ (s : List ℕ) (S : List Section) (k : ℕ) (few : length S ≤ 12) (seen : Sheet) (none-yet : lacks (bytes "wall") seen ≡ true) (above : sectionsIn seen ≡ S) (so-many : length (stagesIn seen) ≡ k) where
   stage-in : (w : Wallˢ) → 1 ≤ w .stage .0 → w .stage .0 ≤ 12 → In stageNumber (pos (w .stage .0))
   stage-in w l m = record { low = record { le = le→leb 1 (w .stage .0) l }; high = record { le = le→leb (w .stage .0) 12 m } }
 
@@ -89,14 +89,14 @@ module _ (s : List ℕ) (S : List Section) (k : ℕ) (few : length S ≤ 12) (se
       → wall-rule (seen ++ filled wallLine rows) row ≡ said (rule-on S k cells w)
   rule-is cells rows w row shown l m e =
       let here = seen ++ filled wallLine rows in
-      let S-is : map sectionOf (sections here) ≡ S = ap (map sectionOf) (rows-other (bytes "section") wallLine rows seen refl) ∙ above in
-      let k-is : length (stages here) ≡ k = ap length (rows-other (bytes "stage") wallLine rows seen refl) ∙ so-many in
-      let rows-are : walls here ≡ rows = rows-here wallLine rows seen none-yet in
-      let cells-are : laid (map sectionOf (sections here)) (replicate 144 unread) (map wallOf (walls here)) ≡ cells =
-      ap₂ (λ (x : List Section) (y : List Row). laid x (replicate 144 unread) (map wallOf y)) S-is rows-are ∙ sym (shown .lie) in
-      let few′ : length (sections here) ≤ 12 = omega (arith, few, ap length S-is, length-map (sections here) sectionOf) in
-      let ps : Every (Placed (map sectionOf (sections here))) (map wallOf (walls here)) = rw (S-is, rows-are) (shown .placed) in
-      let staged : In stageNumber (at row 1) = subst (λ (x : Wall). In stageNumber (x .stage)) e (stage-in w l m) in
+      let S-is : sectionsIn here ≡ S = ap (map sectionOf) (rows-other (bytes "section") wallLine rows seen refl) ∙ above in
+      let k-is : length (stagesIn here) ≡ k = ap (λ (x : List Row). length (map stageOf x)) (rows-other (bytes "stage") wallLine rows seen refl) ∙ so-many in
+      let walls-are : wallsIn here ≡ map wallOf rows = ap (map wallOf) (rows-here wallLine rows seen none-yet) in
+      let cells-are : laid (sectionsIn here) (replicate 144 unread) (wallsIn here) ≡ cells =
+      ap₂ (λ (x : List Section) (y : List Wall). laid x (replicate 144 unread) y) S-is walls-are ∙ sym (shown .lie) in
+      let few′ : length (sectionsIn here) ≤ 12 = omega (arith, few, ap length S-is) in
+      let ps : Every (Placed (sectionsIn here)) (wallsIn here) = rw (S-is, walls-are) (shown .placed) in
+      let staged : In stageNumber (wallOf row .stage) = subst (λ (x : Wall). In stageNumber (x .stage)) e (stage-in w l m) in
       wall-rule-is here few′ ps row staged ∙ agree S-is k-is cells-are (sym e)
 
   wall-shown : (cells : List Reading) (rows : List Row) (w : Wallˢ) (row : Row) → WallsShown S cells rows → 1 ≤ w .stage .0 → w .stage .0 ≤ 12 → wall w ≡ wallOf row

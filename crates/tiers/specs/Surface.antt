@@ -15,9 +15,9 @@ use Rattle.sheet.specs.Shown.{section, before, laid, unread}
 use Rattle.text.specs.Bytes.{bytes}
 use Rattle.lines.specs.Schema.{Row}
 use Rattle.lines.specs.Reader.{Sheet, readLine, readRows}
-use Rattle.lines.specs.Document01.{at, when, sameKey, sectionLine, section-rule, wallLine, wall-rule}
-use Rattle.lines.specs.Rules.{Every, sections, stages}
-use Rattle.lines.specs.Rows.{sectionOf, wallOf}
+use Rattle.lines.specs.Document01.{when, sameKey, sectionLine, section-rule, wallLine, wall-rule}
+use Rattle.lines.specs.Rules.{Every}
+use Rattle.lines.specs.Rows.{sectionOf, wallOf, stagesIn, sectionsIn}
 use Rattle.walls.specs.declared.Ruling.{Ruling}
 use Rattle.walls.specs.Walls.{numbers}
 use Rattle.walls.proofs.Sections.{Distinct}
@@ -32,7 +32,7 @@ use Rattle.blank.specs.Blank.{blankSection}
 
 -- 6: a section number stands among those above it
 abbrev pub twice : List Section → Row → Option Refusal
-twice S row = when (ltb (before (at row 0) S) (length S)) SectionTwice
+twice S row = when (ltb (before (sectionOf row .number) S) (length S)) SectionTwice
 
 -- a section line and its rule, by any sections above it that have these numbers
 abbrev pub NewSection : List ℕ → Place → List ℕ → ℕ → SectionLine → Type 0
@@ -65,7 +65,7 @@ pub record WallsShown (S : List Section) (cells : List Reading) (rows : List Row
 
 abbrev pub WallsAfter : List ℕ → Place → ℕ → List Section → ℕ → Place → List Reading → Type 0
 WallsAfter s p n S k q cells =
-    (seen : Sheet) → lacks (bytes "wall") seen ≡ true → map sectionOf (sections seen) ≡ S → length (stages seen) ≡ k → After s p (readRows n wallLine wall-rule seen []) q (WallsShown S cells)
+    (seen : Sheet) → lacks (bytes "wall") seen ≡ true → sectionsIn seen ≡ S → length (stagesIn seen) ≡ k → After s p (readRows n wallLine wall-rule seen []) q (WallsShown S cells)
 
 -- a wall line's place, once its rules are looked at
 abbrev pub settled : ℕ → Place → Ruling → Place

@@ -4,7 +4,7 @@ use Prim.Native.Nat.{ℕ, _≤_, _<_, min}
 use native.Mathlib.Omega.{arith}
 use mathlib.Core.Path.{_≡_, refl, sym, ap, _∙_}
 use mathlib.Core.Bool.{Bool, true, false, _&&_, _||_, or-false}
-use mathlib.Core.List.{List, [], _∷_, _++_, map}
+use mathlib.Core.List.{List, [], _∷_, _++_}
 use lib.Dec.{eqb, ltb, leb→le}
 use lib.ListN.{length, getD, set, replicate, length-set, length-replicate, getD-replicate, List·getD-eq-default}
 use lib.IntN.{ℤ, pos, negsuc, natAbs}
@@ -13,15 +13,12 @@ use borrow.Author.Tests.{eqb-true, eqb-false, ltb-true, ltb-false}
 use Rattle.sheet.specs.declared.Reading.{Reading}
 use Rattle.sheet.specs.Firing.{Section, Wall}
 use Rattle.sheet.specs.Shown.{same, before, cell, reading, unread, wasRead, laid}
-use Rattle.lines.specs.Schema.{Row}
 use Rattle.lines.specs.Quantities.{stageNumber}
 use Rattle.lines.specs.Limits.{In}
 use Rattle.lines.specs.Rules.{Every}
-use Rattle.lines.specs.Document01.{any, at}
-use Rattle.lines.specs.Rows.{wallOf}
+use Rattle.lines.specs.Document01.{isRead}
 use Rattle.walls.specs.Walls.{readAt}
 use Rattle.lines.proofs.Rules.{same-self, same-is}
-use Rattle.walls.proofs.Same.{any-map}
 use Rattle.walls.proofs.Sections.{before-one}
 
 -- A cell is looked up among the 144, and beyond the last there is none.
@@ -51,7 +48,7 @@ counts (pos n) h = record { is = refl; least = leb→le 1 n (h .low .le); greate
 counts (negsuc n) h = absurd (h .low .le)
 
 -- A wall at this section in this stage.
-abbrev pub measures : ℤ → ℤ → Wall → Bool
+abbrev measures : ℤ → ℤ → Wall → Bool
 measures section stage x = same (x .section) section && same (x .stage) stage
 
 either-order : (a b c : Bool) → a || (b || c) ≡ (b || a) || c
@@ -110,31 +107,23 @@ module _ (S : List Section) (few : length S ≤ 12) where
   -- Over any cells that are there already.
   laid-onto :
       (w : Wall) → Placed S w → (ws : List Wall) (cells : List Reading) → length cells ≡ 144 → Every (Placed S) ws →
-      readAt (laid S cells ws) (cell S w) ≡ any (measures (w .section) (w .stage)) ws || readAt cells (cell S w)
+      readAt (laid S cells ws) (cell S w) ≡ isRead ws (w .section) (w .stage) || readAt cells (cell S w)
   unfolding laid
   laid-onto w q [] cells full ps = refl
   laid-onto w q (x ∷ ws) cells full ps =
       let after = set cells (cell S x) (reading x) in
       laid-onto w q ws after (length-set cells (cell S x) (reading x) ∙ full) (ps .1)
-      ∙ (ap (λ t. any (measures (w .section) (w .stage)) ws || t) (set-read cells full x w (ps .0) q)
-      ∙ either-order (any (measures (w .section) (w .stage)) ws) (measures (w .section) (w .stage) x) (readAt cells (cell S w)))
+      ∙ (ap (λ t. isRead ws (w .section) (w .stage) || t) (set-read cells full x w (ps .0) q)
+      ∙ either-order (isRead ws (w .section) (w .stage)) (measures (w .section) (w .stage) x) (readAt cells (cell S w)))
 
   -- A cell is read where a wall of its section and stage was laid.
   pub laid-read :
       (w : Wall) → Placed S w → (ws : List Wall) → Every (Placed S) ws →
-      readAt (laid S (replicate 144 unread) ws) (cell S w) ≡ any (measures (w .section) (w .stage)) ws
+      readAt (laid S (replicate 144 unread) ws) (cell S w) ≡ isRead ws (w .section) (w .stage)
   laid-read w q ws ps =
       let blank = ap wasRead (getD-replicate 144 (cell S w) unread unread (cell-below w q)) in
       laid-onto w q ws (replicate 144 unread) (length-replicate 144 unread) ps
-      ∙ (ap (λ t. any (measures (w .section) (w .stage)) ws || t) blank ∙ or-false _)
-
--- The same in the form of the rules, over the walls' rows.
-pub laid-rows :
-    (S : List Section) (rows : List Row) (w : Wall) → length S ≤ 12 → Placed S w → Every (Placed S) (map wallOf rows) →
-    readAt (laid S (replicate 144 unread) (map wallOf rows)) (cell S w)
-    ≡ any (λ r. same (at r 0) (w .section) && same (at r 1) (w .stage)) rows
-laid-rows S rows w few q ps =
-    laid-read S few w q (map wallOf rows) ps ∙ any-map (measures (w .section) (w .stage)) wallOf rows
+      ∙ (ap (λ t. isRead ws (w .section) (w .stage) || t) blank ∙ or-false _)
 
 -- ONE MORE WALL
 pub laid-more :

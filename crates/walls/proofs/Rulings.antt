@@ -2,28 +2,26 @@
 -- ruling doesn't ask for it. Assumes nothing.
 use Prim.Native.Nat.{ℕ, _≤_}
 use mathlib.Core.Path.{_≡_, refl, sym, ap, _∙_}
-use mathlib.Core.Bool.{Bool, true, false, not, _&&_}
-use mathlib.Core.List.{List, map}
+use mathlib.Core.Bool.{Bool, true, false, not}
+use mathlib.Core.List.{List}
 use mathlib.Core.Option.{Option}
 use lib.Dec.{ltb, leb}
-use lib.ListN.{length, replicate, length-map}
+use lib.ListN.{length, replicate}
 use lib.IntN.{ℤ, pos, negsuc, natAbs}
 use lib.Signed.{ltZ}
 use borrow.Author.Tests.{ltb-true, leb-true, leb-false, le-ltb, lt-ltb}
 use Rattle.sheet.specs.declared.Refusal.{Refusal}
 use Rattle.sheet.specs.declared.Refusal.the-variants.{NoSuchWall, ReadTwice, Colder}
-use Rattle.sheet.specs.Firing.{Section}
-use Rattle.sheet.specs.Shown.{same, before, cell, unread, laid}
-use Rattle.lines.specs.Schema.{Row}
+use Rattle.sheet.specs.Firing.{Stage, Section, Wall}
+use Rattle.sheet.specs.Shown.{before, cell, unread, laid}
 use Rattle.lines.specs.Quantities.{stageNumber}
 use Rattle.lines.specs.Limits.{In}
 use Rattle.lines.specs.Rules.{Every}
-use Rattle.lines.specs.Document01.{any, at, when, _else_}
-use Rattle.lines.specs.Rows.{sectionOf, wallOf}
+use Rattle.lines.specs.Document01.{when, _else_, isRead, wallFault}
 use Rattle.walls.specs.declared.Ruling.{Ruling}
 use Rattle.walls.specs.Walls.{rulingOf, readAt}
-use Rattle.walls.proofs.Sections.{before-listed}
-use Rattle.walls.proofs.Readings.{Placed, laid-rows}
+use Rattle.walls.proofs.Sections.{before-is}
+use Rattle.walls.proofs.Readings.{Placed, laid-read}
 
 -- What is said of the line: the refusal, if a rule is broken.
 abbrev pub said : Ruling → Option Refusal
@@ -49,36 +47,24 @@ beyond k (pos n) h = by (leb n k) refl
     by false e = lt-ltb k n (leb-false n k e)
 beyond k (negsuc n) h = absurd (h .low .le)
 
-module _ (sections walls : List Row) (k : ℕ) (row : Row) (few : length sections ≤ 12)
-    (ps : Every (Placed (map sectionOf sections)) (map wallOf walls)) (staged : In stageNumber (at row 1)) where
-  abbrev S : List Section
-  S = map sectionOf sections
-
+module _ (S : List Section) (ws : List Wall) (few : length S ≤ 12) (ps : Every (Placed S) ws) (w : Wall) (staged : In stageNumber (w .stage)) where
   abbrev read : Bool
-  read = readAt (laid S (replicate 144 unread) (map wallOf walls)) (cell S (wallOf row))
-
-  abbrev above : Bool
-  above = any (λ r. same (at r 0) (at row 0) && same (at r 1) (at row 1)) walls
+  read = readAt (laid S (replicate 144 unread) ws) (cell S w)
 
   -- Where the section is listed, its cell is read exactly where a wall above has its section and stage.
   cell-above :
-      (t s colder : Bool) → ltb (before (at row 0) S) (length S) ≡ t →
-      when (not t) NoSuchWall else when (not s) NoSuchWall else when above ReadTwice else when colder Colder
+      (t s colder : Bool) → ltb (before (w .section) S) (length S) ≡ t →
+      when (not t) NoSuchWall else when (not s) NoSuchWall else when (isRead ws (w .section) (w .stage)) ReadTwice else when colder Colder
       ≡ said (rulingOf t s read colder)
   cell-above true s colder e =
-      let placed : Placed S (wallOf row) = record { listed = ltb-true (before (at row 0) S) (length S) e; staged = staged } in
-      let fewer : length S ≤ 12 = rw (length-map sections sectionOf) few in
-      let here = sym (laid-rows S walls (wallOf row) fewer placed ps) in
-      ap (λ t. when (not s) NoSuchWall else when t ReadTwice else when colder Colder) here
+      let placed : Placed S w = record { listed = ltb-true (before (w .section) S) (length S) e; staged = staged } in
+      ap (λ t. when (not s) NoSuchWall else when t ReadTwice else when colder Colder) (sym (laid-read S few w placed ws ps))
       ∙ ruling-is true s read colder
   cell-above false s colder e = ruling-is false s read colder
 
-  pub ruling-rows :
-      when (not (any (λ r. same (at r 0) (at row 0)) sections)) NoSuchWall
-      else when (ltZ (pos k) (at row 1)) NoSuchWall
-      else when above ReadTwice
-      else when (ltZ (at row 2) (at row 3)) Colder
-      ≡ said (rulingOf (ltb (before (at row 0) S) (length S)) (leb (natAbs (at row 1)) k) read (ltZ (at row 2) (at row 3)))
-  ruling-rows =
-      rw (before-listed (at row 0) sections S refl, beyond k (at row 1) staged)
-      (cell-above (ltb (before (at row 0) S) (length S)) (leb (natAbs (at row 1)) k) (ltZ (at row 2) (at row 3)) refl)
+  pub wall-fault-is :
+      (stages : List Stage) →
+      wallFault stages S ws w ≡ said (rulingOf (ltb (before (w .section) S) (length S)) (leb (natAbs (w .stage)) (length stages)) read (ltZ (w .surface) (w .air)))
+  wall-fault-is stages =
+      rw (before-is (w .section) S, beyond (length stages) (w .stage) staged)
+      (cell-above (ltb (before (w .section) S) (length S)) (leb (natAbs (w .stage)) (length stages)) (ltZ (w .surface) (w .air)) refl)

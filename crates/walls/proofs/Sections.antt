@@ -4,7 +4,7 @@ use Prim.Native.Nat.{ℕ, zero, suc, _+_, _≤_, _<_}
 use native.Mathlib.Omega.{arith}
 use mathlib.Core.Path.{_≡_, refl, sym, ap, _∙_}
 use mathlib.Core.Bool.{Bool, true, false, cond, _||_}
-use mathlib.Core.List.{List, [], _∷_, _++_, map, map-append}
+use mathlib.Core.List.{List, [], _∷_, _++_, map}
 use lib.Dec.{ltb, eqb, leb·suc-suc}
 use lib.ListN.{length, getD, take, drop, set, length-append, length-map, List·getD-append}
 use lib.IntN.{ℤ, pos, natAbs}
@@ -13,16 +13,10 @@ use borrow.Author.Tests.{lt-ltb, eq-eqb, ne-eqb, eqb-true, eqb-false}
 use Rattle.sheet.specs.declared.Section.{Section as Sectionˢ}
 use Rattle.sheet.specs.Firing.{Section}
 use Rattle.sheet.specs.Shown.{section, same, before}
-use Rattle.lines.specs.Schema.{Row}
-use Rattle.lines.specs.Document01.{any, at}
-use Rattle.lines.specs.Rows.{sectionOf}
+use Rattle.lines.specs.Document01.{isListed}
 use Rattle.lines.proofs.Rules.{same-self, same-is}
 use Rattle.walls.specs.Walls.{numbers, placeOf}
-use Rattle.walls.proofs.Same.{same-false, same-swap, any-map, neither}
-
--- A section of this number stands in the list.
-abbrev pub listed : ℤ → List Section → Bool
-listed z S = any (λ x. same (x .number) z) S
+use Rattle.walls.proofs.Same.{same-false, same-swap, neither}
 
 pub before-most : (z : ℤ) (S : List Section) → before z S ≤ length S
 unfolding before
@@ -34,20 +28,14 @@ before-most z (x ∷ S) = by (same z (x .number)) (before-most z S)
     by false h = omega arith
 
 -- A number is listed exactly where fewer sections than there are stand before it.
-pub before-is : (z : ℤ) (S : List Section) → listed z S ≡ ltb (before z S) (length S)
+pub before-is : (z : ℤ) (S : List Section) → isListed S z ≡ ltb (before z S) (length S)
 unfolding before
 before-is z [] = refl
 before-is z (x ∷ S) = rw (same-swap (x .number) z) (by (same z (x .number)) (before-is z S))
   where
-    by : (t : Bool) → listed z S ≡ ltb (before z S) (length S) → t || listed z S ≡ ltb (cond t 0 (suc (before z S))) (suc (length S))
+    by : (t : Bool) → isListed S z ≡ ltb (before z S) (length S) → t || isListed S z ≡ ltb (cond t 0 (suc (before z S))) (suc (length S))
     by true h = sym (lt-ltb 0 (suc (length S)) (omega arith))
     by false h = h ∙ sym (leb·suc-suc (suc (before z S)) (length S))
-
--- The same in the form of the rules, over the sections' rows.
-pub before-listed :
-    (z : ℤ) (rows : List Row) (S : List Section) →
-    map sectionOf rows ≡ S → any (λ r. same (at r 0) z) rows ≡ ltb (before z S) (length S)
-before-listed z rows S e = sym (any-map (λ x. same (x .number) z) sectionOf rows) ∙ (ap (listed z) e ∙ before-is z S)
 
 -- Two numbers that stand in one place are one.
 pub before-one : (a b : ℤ) (S : List Section) → before a S < length S → before a S ≡ before b S → a ≡ b
@@ -66,17 +54,17 @@ before-one a b (x ∷ S) h e = by (same a (x .number)) (same b (x .number)) refl
 
 -- NO NUMBER TWICE: each section's number is not among those above it, as rule 6 leaves them.
 pub record Distinct (S : List Section) : Type 0 where
-  pub apart : (i : ℕ) (d : Section) → i < length S → listed (getD S i d .number) (take i S) ≡ false
+  pub apart : (i : ℕ) (d : Section) → i < length S → isListed (take i S) (getD S i d .number) ≡ false
 
 pub distinct-none : Distinct []
 distinct-none = record { apart = λ i d h. absurd (omega arith) }
 
-pub distinct-more : (S : List Section) (x : Section) → Distinct S → listed (x .number) S ≡ false → Distinct (S ++ (x ∷ []))
+pub distinct-more : (S : List Section) (x : Section) → Distinct S → isListed S (x .number) ≡ false → Distinct (S ++ (x ∷ []))
 distinct-more S x D new = record { apart = λ i d h. by i d (eqb i (length S)) refl (rw length-append at h) }
   where
     by :
         (i : ℕ) (d : Section) (t : Bool) → eqb i (length S) ≡ t → i < length S + 1 →
-        listed (getD (S ++ (x ∷ [])) i d .number) (take i (S ++ (x ∷ []))) ≡ false
+        isListed (take i (S ++ (x ∷ []))) (getD (S ++ (x ∷ [])) i d .number) ≡ false
     by i d true e h =
         let last = sym (eqb-true i (length S) e) in
         rw (getD-at S x [] d i last, take-at S (x ∷ []) i last) new
@@ -85,20 +73,13 @@ distinct-more S x D new = record { apart = λ i d h. by i d (eqb i (length S)) r
         let less : i < length S = omega arith in
         rw (List·getD-append S (x ∷ []) d i less, take-append-le i S (x ∷ []) (omega arith)) (D .apart i d less)
 
--- The same from a row and the rows above it.
-pub distinct-row :
-    (rows : List Row) (row : Row) →
-    Distinct (map sectionOf rows) → any (λ r. same (at r 0) (at row 0)) rows ≡ false → Distinct (map sectionOf (rows ++ (row ∷ [])))
-distinct-row rows row D e =
-    rw (map-append sectionOf rows (row ∷ [])) (distinct-more _ (sectionOf row) D (any-map (λ x. same (x .number) (at row 0)) sectionOf rows ∙ e))
-
-first : (S : List Section) (d : Section) (i : ℕ) → i < length S → listed (getD S i d .number) (take i S) ≡ false → before (getD S i d .number) S ≡ i
+first : (S : List Section) (d : Section) (i : ℕ) → i < length S → isListed (take i S) (getD S i d .number) ≡ false → before (getD S i d .number) S ≡ i
 unfolding before
 first [] d i h e = absurd (omega arith)
 first (x ∷ S) d zero h e = rw (same-self (x .number))
 first (x ∷ S) d (suc i) h e =
     let z = getD S i d .number in
-    let parts = neither (same (x .number) z) (listed z (take i S)) e in
+    let parts = neither (same (x .number) z) (isListed (take i S) z) e in
     rw (same-swap z (x .number), parts .0) (ap suc (first S d i (omega arith) (parts .1)))
 
 -- Where no number stands twice, a section stands at its own index.

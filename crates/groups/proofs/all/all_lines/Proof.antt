@@ -38,7 +38,7 @@ closing-line-requires c κs = record { short = c .before .before .before .before
 returns : tie.Need-returns
 returns c =
     let h = c .before .before .before .before .before .before in
-    let z = h .before in
+    let z = h .before .before in
     let w = z .before in
     let d = w .before in
     let p = d .before in
@@ -50,7 +50,7 @@ returns c =
     let a₀ = e .before .before .args in
     rw (h .head-of .ensures)
     (record {
-      after = lines-after (a₀ .s .now) (a₀ .start) (e .edition-line .result) (u .upper-lines .result) (l .lower-lines .result) (a .stages-part .result) (b .setters-part .result) (p .parts-part .result) (d .sections-part .result) (w .walls-part .result) (z .closing-line .result) _ _
+      after = lines-after (a₀ .s .now) (a₀ .start) (e .edition-line .result) (u .upper-lines .result) (l .lower-lines .result) (a .stages-part .result) (b .setters-part .result) (p .parts-part .result) (d .sections-part .result) (w .walls-part .result) (z .closing-line .result) _
           (e .edition-line .ensures) (u .upper-lines .ensures) (l .lower-lines .ensures) (a .stages-part .ensures) (b .setters-part .ensures) (p .parts-part .ensures) (d .sections-part .ensures) (w .walls-part .ensures) (z .closing-line .ensures);
       sized = record { stages = a .stages-part .ensures .within; sections = d .sections-part .ensures .within; small = a .stages-part .ensures .small };
     })

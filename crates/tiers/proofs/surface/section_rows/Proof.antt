@@ -2,7 +2,7 @@
 use Prim.Native.Nat.{ℕ, suc, _+_, _-_, _≤_, _<_}
 use mathlib.Core.Path.{_≡_, refl, sym, ap, _∙_, subst}
 use mathlib.Core.Bool.{Bool, true, false}
-use mathlib.Core.List.{List, [], _∷_, _++_, map}
+use mathlib.Core.List.{List, [], _∷_, _++_, map, map-append}
 use mathlib.Core.Option.{Option, none}
 use native.Mathlib.Numerals.{add-one}
 use native.Mathlib.Omega.{arith}
@@ -16,13 +16,13 @@ use Rattle.sheet.specs.Firing.{Section}
 use Rattle.sheet.specs.Shown.{section, before}
 use Rattle.text.specs.Bytes.{bytes}
 use Rattle.lines.specs.Schema.{Row}
-use Rattle.lines.specs.Document01.{at, when, sectionLine, section-rule}
+use Rattle.lines.specs.Document01.{when, sectionLine, section-rule, isListed}
 use Rattle.lines.specs.Reader.{Sheet, filled, readLine, readRows}
 use Rattle.lines.specs.Rows.{sectionOf}
 use Rattle.lines.proofs.Cases.{clash}
 use Rattle.walls.proofs.Document.{section-rule-is}
 use Rattle.walls.specs.Walls.{numbers}
-use Rattle.walls.proofs.Sections.{distinct-none, distinct-row, before-listed, numbers-length, numbers-set}
+use Rattle.walls.proofs.Sections.{before-is, distinct-none, distinct-more, numbers-length, numbers-set}
 use Rattle.entries.specs.declared.Place.{Place}
 use Rattle.entries.specs.Place.{Ready, After}
 use Rattle.blank.specs.Blank.{blankSection}
@@ -49,10 +49,12 @@ one-shown : (i : ℕ) (lines : List Sectionˢ) (rows : List Row) (x : Sectionˢ)
     → (section x ≡ sectionOf row) × (twice (map section (take i lines)) row ≡ none) → SectionsShown (i + 1) (set lines i x) (rows ++ (row ∷ []))
 one-shown i lines rows x row h w e =
     let S = map section (take i lines) in
-    let f = not-twice (ltb (before (at row 0) S) (length S)) (e .1) in
+    let n = sectionOf row .number in
+    let f = not-twice (ltb (before n S) (length S)) (e .1) in
+    let new : isListed (map sectionOf rows) n ≡ false = ap (λ (T : List Section). isListed T n) (sym (w .filled .shown)) ∙ before-is n S ∙ f in
     record {
       filled = one-filled section sectionOf blankSection 12 i lines rows x row h (w .filled) (e .0);
-      distinct = distinct-row rows row (w .distinct) (before-listed (at row 0) rows S (sym (w .filled .shown)) ∙ f);
+      distinct = rw (map-append sectionOf rows (row ∷ [])) (distinct-more (map sectionOf rows) (sectionOf row) (w .distinct) new);
     }
 
 next : (s : List ℕ) (p q q′ : Place) (i : ℕ) (lines : List Sectionˢ) (x : Sectionˢ) (seen : Sheet) → i < 12 → lacks (bytes "section") seen ≡ true
