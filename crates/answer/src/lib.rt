@@ -3,6 +3,7 @@ ghost use mathlib.Core.Path.{_≡_};
 ghost use Prim.Native.Nat.{_<_, _≤_, _^_};
 ghost use lib.ListN.{length};
 ghost use Rattle.sheet.specs.Refusals.{number};
+ghost use Rattle.formulas.specs.Items.{shuttle};
 ghost use Rattle.formulas.specs.Report.{keys, linesText};
 ghost use Rattle.answer.specs.Answer.{refusedAs, fitted, placed};
 use sheet::Refusal;
@@ -29,9 +30,9 @@ pub fn refused(why: Refusal, line: usize) -> Answer
 
 // The report at the front of the room, if it fits. Its figures are known, and that it has room, before the first byte is written.
 pub fn reported(figures: [i64; 20], room: &mut [u8]) -> Answer
-    ensures { λ r. ⌜ r ≡ fitted (linesText keys figures) (length (now (room .entry))) ⌝ }
-    ensures { λ _. ⌜ now (room .exit) ≡ placed (linesText keys figures) (now (room .entry)) ⌝ }
-    ensures { λ _. ⌜ length (linesText keys figures) ≤ 600 ⌝ }
+    ensures { λ r. ⌜ r ≡ fitted (linesText (keys shuttle) figures) (length (now (room .entry))) ⌝ }
+    ensures { λ _. ⌜ now (room .exit) ≡ placed (linesText (keys shuttle) figures) (now (room .entry)) ⌝ }
+    ensures { λ _. ⌜ length (linesText (keys shuttle) figures) ≤ 600 ⌝ }
 {
     if report::fits(figures, room.len()) {
         let length = report::write(room, figures);

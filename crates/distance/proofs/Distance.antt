@@ -1,9 +1,9 @@
--- Demand 3: the proof of a heat follows its formula, and how far the heat is off is computed along the way. What is allowed is asked once, line
--- by line, at the end; the nearest to it is x11, 323.5 J of 350. Assumes nothing.
+-- Demand 3: the proof of a heat follows its formula, and how far the heat is off is computed along the way; a side is off by what its items are.
+-- What is allowed is asked once, at the end; the nearest to it is x11, 323.5 J of 350. Assumes nothing.
 use Prim.Native.Nat.{ℕ, zero, suc, _+_, _*_, _/_, _^_, _-_, _≤_, _<_}
 use mathlib.Core.Path.{_≡_, ap, subst}
-use mathlib.Core.Bool.{Bool, true, false, cond}
-use mathlib.Core.List.{List, [], _∷_}
+use mathlib.Core.Bool.{Bool, true, false, cond, _&&_}
+use mathlib.Core.List.{List, [], _∷_, _++_, map}
 use native.Mathlib.Nat.{le-trans, mul-le-mul, mul-le-mul-left, mul-le-mul-right}
 use native.Mathlib.Omega.{arith}
 use lib.Dec.{T, leb, leb→le, lit<, lit≤}
@@ -12,6 +12,7 @@ use lib.ListN.{getD}
 use lib.Signed.{_≤ℤ_, ≤ℤ-refl, leZ-yes}
 use Rattle.arith.specs.Nearest.{nearest}
 use Rattle.arith.specs.Root.{root}
+use Rattle.arith.proofs.Ring.{both-left, both-right}
 use Rattle.arith.proofs.Order.{arithℤ, ≤ℤ-trans, nonneg-mul, abs-is, abs-mul}
 use Rattle.arith.proofs.Machine.{range, arg, _⟨-⟩_, bound}
 use Rattle.arith.proofs.RootLaws.{root-is}
@@ -23,9 +24,10 @@ use Rattle.lines.specs.Rows.{firingOf}
 use Rattle.lines.specs.Limits.{In, StageIn, SectionIn, Limits}
 use Rattle.lines.proofs.Document01.{firing-limits}
 use Rattle.formulas.specs.Rounding.{Rounding, paper}
-use Rattle.formulas.specs.Formulas.{joule, sensible, totalGas, q1, q2, q3, q5, q8, income, x1, x2, x3, x5, x10, dryFlue, vapourRate, vapour, dryHeat, vapourHeat, flueHeat, monoxideHeat, x7, x8, noStage, numbered, sectionOf, stageOf, convection, radiation, flux, wallHeat, x9, spent, x11, waterHeat, useful, withset}
+use Rattle.formulas.specs.Formulas.{joule, sum, sensible, totalGas, q1, q2, q3, q5, q8, x1, x2, x3, x5, x10, dryFlue, vapourRate, vapour, dryHeat, vapourHeat, flueHeat, monoxideHeat, x7, x8, noStage, numbered, sectionOf, stageOf, convection, radiation, flux, wallHeat, x9, waterHeat, useful, withset}
+use Rattle.formulas.specs.Items.{Quantity, Item, item, Sides, shuttle, total, x11, heats}
 use Rattle.formulas.proofs.Sums.{sum-of}
-use Rattle.formulas.specs.Report.{number, heat, share, lines, printed}
+use Rattle.formulas.specs.Report.{Line, number, heat, share, itemLine, shares, lines, printed}
 use Rattle.distance.specs.Demand.{Stand, cutDown, oneMore, standIn, Enclosed, Choice, against, surface, thousand, allowed, leeway, Within, Near, Demand3}
 use Rattle.distance.proofs.Off.{Off, Size, same, one-more, _⊞_, _⊟_, _⊠_, times, per, per-both, rounded, settled, summed, records}
 
@@ -84,7 +86,7 @@ module _ (f : Firing) (h : Limits f) (choice : Choice) where
     rate : ℕ
     off : Off (surface f) flat rate (q f paper) (q f (against choice))
 
-  abbrev known : {q : Firing → Rounding → ℤ} {a b : ℕ} → Off (surface f) a b (q f paper) (q f (against choice)) → Bound q
+  abbrev known : {q : Quantity} {a b : ℕ} → Off (surface f) a b (q f paper) (q f (against choice)) → Bound q
   known {a = a} {b = b} p = record { flat = a; rate = b; off = p }
 
   -- ---- Income
@@ -107,10 +109,6 @@ module _ (f : Firing) (h : Limits f) (choice : Choice) where
   q8-off : Bound q8
   unfolding q8 sensible
   q8-off = known (records (f .parts) (h .parts) (h .partsMost) (λ x c. rounded (lit< tt) same))
-
-  income-off : Bound income
-  unfolding income
-  income-off = known (q1-off .off ⊞ q2-off .off ⊞ q3-off .off ⊞ q5-off .off ⊞ q8-off .off)
 
   -- ---- Expenditure
   x1-off : Bound x1
@@ -171,14 +169,32 @@ module _ (f : Firing) (h : Limits f) (choice : Choice) where
       (f .walls) (h .walls) (h .wallsMost) (λ w c.
       rounded (lit< tt) (per-both (sectionOf f w .area) (stageOf f w .minutes) (stand-off (choice w) _ ⊠ pos (10 ^ 9) ⊞ rounded (lit< tt) same) ⊠ pos 60 ⊠ pos (joule / 10 ^ 16))))
 
-  -- ---- Rest
-  spent-off : Bound spent
-  unfolding spent
-  spent-off = known (x1-off .off ⊞ x2-off .off ⊞ x3-off .off ⊞ x5-off .off ⊞ x7-off .off ⊞ x8-off .off ⊞ x9-off .off ⊞ x10-off .off)
+  -- ---- Sides
+  Bounded : List Item → Type 0
+  Bounded l = Every (λ i. Bound (i .heat)) l
 
-  x11-off : Bound x11
+  -- a side is off by what its items are
+  flats : (l : List Item) → Bounded l → ℕ
+  unfolding Bounded
+  flats [] p = 0
+  flats (i ∷ l) p = p .0 .flat + flats l (p .1)
+
+  rates : (l : List Item) → Bounded l → ℕ
+  unfolding Bounded
+  rates [] p = 0
+  rates (i ∷ l) p = p .0 .rate + rates l (p .1)
+
+  sides : (l : List Item) (p : Bounded l) → Off (surface f) (flats l p) (rates l p) (total l f paper) (total l f (against choice))
+  unfolding Bounded flats rates total sum
+  sides [] p = same
+  sides (i ∷ l) p = p .0 .off ⊞ sides l (p .1)
+
+  side-off : (l : List Item) → Bounded l → Bound (total l)
+  side-off l p = known (sides l p)
+
+  x11-off : (s : Sides) → Bounded (s .incomes) → Bounded (s .expenses) → Bound (x11 s)
   unfolding x11
-  x11-off = known (income-off .off ⊟ spent-off .off)
+  x11-off s p q = known (side-off (s .incomes) p .off ⊟ side-off (s .expenses) q .off)
 
   useful-off : Bound useful
   unfolding useful waterHeat
@@ -196,7 +212,7 @@ module _ (f : Firing) (h : Limits f) (choice : Choice) where
   abbrev leastProduct : ℕ
   leastProduct = joule * natAbs (product .least)
 
-  per-tonne : {key : List ℕ} {q : Firing → Rounding → ℤ} (p : Bound q) → T (allows 10 leastProduct (allowed (heat q)) (p .flat)) → T (spares 10 leastProduct (leeway key) (p .rate)) → Near f choice (record { key = key; figure = heat q })
+  per-tonne : {key : List ℕ} {q : Quantity} (p : Bound q) → T (allows 10 leastProduct (allowed (heat q)) (p .flat)) → T (spares 10 leastProduct (leeway key) (p .rate)) → Near f choice (record { key = key; figure = heat q })
   unfolding printed
   per-tonne {key} {q} p t u =
       let ware : natAbs (product .least) ≤ natAbs (f .product) = let low = h .product .low in omega (arithℤ, abs-is (f .product)) in
@@ -216,37 +232,53 @@ module _ (f : Firing) (h : Limits f) (choice : Choice) where
       let heat : natAbs (heating .least) ≤ natAbs H = let low = h .heating .low in omega (arithℤ, abs-is H) in
       rw (abs-mul (G *ℤ H *ℤ pos 100) (pos joule), abs-mul (G *ℤ H) (pos 100), abs-mul G H) (omega (arith, mul-le-mul gas heat))
 
-  over-fuel : {key : List ℕ} {q : Firing → Rounding → ℤ} (p : Bound q) → T (allows 10000 leastFuel (allowed (share q)) (p .flat)) → T (spares 10000 leastFuel (leeway key) (p .rate)) → Near f choice (record { key = key; figure = share q })
+  over-fuel : {key : List ℕ} {q : Quantity} (p : Bound q) → T (allows 10000 leastFuel (allowed (share q)) (p .flat)) → T (spares 10000 leastFuel (leeway key) (p .rate)) → Near f choice (record { key = key; figure = share q })
   unfolding printed q1
   over-fuel {key} {q} p t u =
       let some = le-trans (lit< tt) fuel-least in
       record { is-fraction = some; near = printing 10000 (allowed (share q)) (leeway key) (p .off) some fuel-least (lit≤ tt) t u }
 
-  -- every line: each `tt` is a test of what is allowed to it, and of its leeway
-  near : Every (Near f choice) lines
-  unfolding lines q1-off q2-off q3-off q5-off q8-off income-off x1-off x2-off x3-off x5-off x7-off x8-off x9-off x10-off spent-off x11-off useful-off withset-off
+  -- whether what is allowed to each heat is kept, and its leeway
+  kept : (l : List Item) → Bounded l → Bool
+  unfolding Bounded
+  kept [] p = true
+  kept (i ∷ l) p = allows 10 leastProduct (allowed (heat (i .heat))) (p .0 .flat) && (spares 10 leastProduct (leeway (i .key)) (p .0 .rate) && kept l (p .1))
+
+  -- the lines of a side, and those below it
+  each-near : (l : List Item) (p : Bounded l) (below : List Line) → T (kept l p) → Every (Near f choice) below → Every (Near f choice) (map itemLine l ++ below)
+  unfolding Bounded kept
+  each-near [] p below t n = n
+  each-near (i ∷ l) p below t n =
+      let a = allows 10 leastProduct (allowed (heat (i .heat))) (p .0 .flat) in
+      let b = spares 10 leastProduct (leeway (i .key)) (p .0 .rate) in
+      let u = both-right a (b && kept l (p .1)) t in
+      (per-tonne (p .0) (both-left a (b && kept l (p .1)) t) (both-left b (kept l (p .1)) u), each-near l (p .1) below (both-right b (kept l (p .1)) u) n)
+
+  incomes-off : Bounded (shuttle .incomes)
+  unfolding Bounded
+  incomes-off = q1-off & q2-off & q3-off & q5-off & q8-off & tt
+
+  expenses-off : Bounded (shuttle .expenses)
+  unfolding Bounded
+  expenses-off = x1-off & x2-off & x3-off & x5-off & x7-off & x8-off & x9-off & x10-off & tt
+
+  abbrev below : List Line
+  below = itemLine (item "x11" (x11 shuttle)) ∷ itemLine (item "useful" useful) ∷ itemLine (item "withset" withset) ∷ shares
+
+  -- every line: each `tt` is a test of what is allowed, and of the leeway
+  near : Every (Near f choice) (lines shuttle)
+  unfolding lines heats Bounded kept incomes-off expenses-off flats rates side-off x11-off useful-off withset-off q1-off q2-off q3-off q5-off q8-off x1-off x2-off x3-off x5-off x7-off x8-off x9-off x10-off
   near =
-      as-it-stands
-      & per-tonne q1-off tt tt
-      & per-tonne q2-off tt tt
-      & per-tonne q3-off tt tt
-      & per-tonne q5-off tt tt
-      & per-tonne q8-off tt tt
-      & per-tonne income-off tt tt
-      & per-tonne x1-off tt tt
-      & per-tonne x2-off tt tt
-      & per-tonne x3-off tt tt
-      & per-tonne x5-off tt tt
-      & per-tonne x7-off tt tt
-      & per-tonne x8-off tt tt
-      & per-tonne x9-off tt tt
-      & per-tonne x10-off tt tt
-      & per-tonne x11-off tt tt
+      let rest : Every (Near f choice) below =
+      per-tonne (x11-off shuttle incomes-off expenses-off) tt tt
       & per-tonne useful-off tt tt
       & per-tonne withset-off tt tt
       & over-fuel useful-off tt tt
       & over-fuel withset-off tt tt
-      & tt
+      & tt in
+      as-it-stands
+      & each-near (shuttle .incomes) incomes-off (itemLine (item "in" (total (shuttle .incomes))) ∷ (map itemLine (shuttle .expenses) ++ below)) tt
+      (per-tonne (side-off (shuttle .incomes) incomes-off) tt tt & each-near (shuttle .expenses) expenses-off below tt rest)
 
 -- THE THEOREM
 pub demand3 : Demand3

@@ -11,6 +11,7 @@ use Rattle.lines.specs.Reader.{rowsText, sheetText, textOf, readLine, readRows,
 use Rattle.lines.specs.Document01.{entriesOf, document01, sheetOf}
 use Rattle.lines.specs.Rules.{Every}
 use Rattle.formulas.specs.Marked.{worked}
+use Rattle.formulas.specs.Items.{shuttle}
 use Rattle.formulas.specs.Report.{lines}
 use Rattle.distance.specs.Demand.{cutDown, oneMore, Near}
 use Rattle.distance.proofs.Distance.{demand3}
@@ -23,10 +24,10 @@ read : readOf document01 text ≡ Good (sheetOf worked)
 unfolding entriesOf readOf readParts readRows readLine judge formedBy upTo begins pieces numbersOf numberWithin unsigned digitsRead outsideOf textOf sheetText rowsText lineText bodyText joined decimal digits digitsIn
 read = refl
 
-below : Every (Near worked (λ w. cutDown)) lines
+below : Every (Near worked (λ w. cutDown)) (lines shuttle)
 unfolding entriesOf
 below = demand3 .near text (sheetOf worked) read (λ w. cutDown)
 
-above : Every (Near worked (λ w. oneMore)) lines
+above : Every (Near worked (λ w. oneMore)) (lines shuttle)
 unfolding entriesOf
 above = demand3 .near text (sheetOf worked) read (λ w. oneMore)

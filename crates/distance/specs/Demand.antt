@@ -14,6 +14,7 @@ use Rattle.lines.specs.Rules.{Every}
 use Rattle.lines.specs.Rows.{firingOf}
 use Rattle.formulas.specs.Rounding.{Rounding, square, exact}
 use Rattle.formulas.specs.Formulas.{sum, sectionOf, stageOf}
+use Rattle.formulas.specs.Items.{sidesOf}
 use Rattle.formulas.specs.Report.{Figure, number, heat, share, Line, lines, Fraction, fraction, printed}
 
 -- ---- THE UNROUNDED VALUE is a fraction of whole numbers: the report's own, with nothing rounded. For A Δ√Δ two stand in, in 1e-5 W/m²:
@@ -70,4 +71,4 @@ pub record Near (f : Firing) (choice : Choice) (l : Line) : Type 0 where
 -- ---- DEMAND 3: of every text that is accepted, whichever stand-in is chosen for each reading, every line of the report is near
 pub record Demand3 : Type 0 where
   pub enclosed : (n : ℕ) → Enclosed n
-  pub near : (text : List ℕ) (sheet : Sheet) → readOf document01 text ≡ Good sheet → (choice : Choice) → Every (Near (firingOf sheet) choice) lines
+  pub near : (text : List ℕ) (sheet : Sheet) → readOf document01 text ≡ Good sheet → (choice : Choice) → let f = firingOf sheet in Every (Near f choice) (lines (sidesOf (f .edition)))

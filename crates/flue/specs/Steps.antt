@@ -4,61 +4,57 @@ use mathlib.Core.List.{List}
 use lib.IntN.{ℤ, pos, _+ℤ_, _-ℤ_, _*ℤ_}
 use mir.Syntax.{w64}
 use mir.Val.{SFits}
-use Rattle.sheet.specs.Firing.{Gas, Stage}
+use Rattle.sheet.specs.Firing.{Stage}
 use Rattle.lines.specs.Quantities.{ambient, moisture}
 use Rattle.lines.specs.Rules.{Every}
 use Rattle.lines.specs.Limits.{In, StageIn}
 use Rattle.formulas.specs.Rounding.{paper}
-use Rattle.formulas.specs.Formulas.{dryFlue}
+use Rattle.formulas.specs.Formulas.{Burning, dryFlue}
 use Rattle.formulas.specs.Figures.{Within, Figure}
-use Rattle.fuel.specs.declared.mixture.Burning.{Burning}
-use Rattle.fuel.specs.Mixture.{Burnt}
+use Rattle.fuel.specs.Mixture.{BurningIn}
 
 pub record DryFits (excess dry air : ℤ) : Type 0 where
-  pub own : SFits w64 (dry *ℤ pos 100000)
   pub more : SFits w64 (excess -ℤ pos 210)
   pub aired : SFits w64 ((excess -ℤ pos 210) *ℤ air)
-  pub all : SFits w64 (dry *ℤ pos 100000 +ℤ (excess -ℤ pos 210) *ℤ air)
+  pub all : SFits w64 (dry +ℤ (excess -ℤ pos 210) *ℤ air)
 
 pub record RateFits (excess air X vapour : ℤ) : Type 0 where
   pub dense : SFits w64 (pos 1293 *ℤ excess)
   pub aired : SFits w64 (pos 1293 *ℤ excess *ℤ air)
   pub moist : SFits w64 (pos 1293 *ℤ excess *ℤ air *ℤ X)
   pub over : SFits w64 (pos 1293 *ℤ excess *ℤ air *ℤ X *ℤ pos 56)
-  pub own : SFits w64 (vapour *ℤ pos 45000000000000)
-  pub all : SFits w64 (pos 1293 *ℤ excess *ℤ air *ℤ X *ℤ pos 56 +ℤ vapour *ℤ pos 45000000000000)
+  pub all : SFits w64 (pos 1293 *ℤ excess *ℤ air *ℤ X *ℤ pos 56 +ℤ vapour)
 
 -- a stage that burns a fuel
-pub record BurnsIn (m : Burning) (s : Stage) : Type 0 where
-  pub gas : Gas
-  pub burnt : Burnt gas m
+pub record BurnsIn (b : Burning) (s : Stage) : Type 0 where
+  pub burning : BurningIn b
   pub stage : StageIn s
 
 -- n hundred-thousandths of a cubic metre are the dry flue gas of a stage
-abbrev pub Volume : Gas → Stage → ℤ → Type 0
-Volume g s n = Figure (10 ^ 5) 304405200000 n (dryFlue paper g s)
+abbrev pub Volume : Burning → Stage → ℤ → Type 0
+Volume b s n = Figure (10 ^ 5) 304405200000 n (dryFlue paper b s)
 
 -- a stage, and so much dry flue gas as one can give
 pub record FilledIn (n : ℤ) (s : Stage) : Type 0 where
   pub volume : Within 304405200000 n
   pub stage : StageIn s
 
-pub record DryIn (n : ℤ) (s : Stage) (t : ℤ) : Type 0 where
+pub record DryIn (n c : ℤ) (s : Stage) (t : ℤ) : Type 0 where
   pub filled : FilledIn n s
+  pub capacity : Within 1384 c
   pub ambient : In ambient t
 
-pub record MoistIn (m : Burning) (X : ℤ) (s : Stage) : Type 0 where
-  pub burns : BurnsIn m s
+pub record MoistIn (b : Burning) (X : ℤ) (s : Stage) : Type 0 where
+  pub burns : BurnsIn b s
   pub moisture : In moisture X
 
-pub record FlueIn (m : Burning) (X : ℤ) (s : Stage) (t : ℤ) : Type 0 where
-  pub moist : MoistIn m X s
+pub record FlueIn (b : Burning) (X : ℤ) (s : Stage) (t : ℤ) : Type 0 where
+  pub moist : MoistIn b X s
   pub ambient : In ambient t
 
 -- all stages
-pub record AllFlueIn (m : Burning) (X : ℤ) (l : List Stage) (t : ℤ) : Type 0 where
-  pub gas : Gas
-  pub burnt : Burnt gas m
+pub record AllFlueIn (b : Burning) (X : ℤ) (l : List Stage) (t : ℤ) : Type 0 where
+  pub burning : BurningIn b
   pub stages : Every StageIn l
   pub moisture : In moisture X
   pub ambient : In ambient t

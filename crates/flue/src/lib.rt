@@ -5,13 +5,13 @@ ghost use lib.IntN.{ℤ, pos, _+ℤ_, _-ℤ_, _*ℤ_};
 ghost use mir.Syntax.{w64};
 ghost use mir.Val.{SFits};
 ghost use Rattle.arith.specs.Nearest.{nearest};
-ghost use Rattle.sheet.specs.Firing.{Gas, Firing};
+ghost use Rattle.sheet.specs.Firing.{Firing};
 ghost use Rattle.sheet.specs.Shown.{stage as stageOf};
 ghost use Rattle.formulas.specs.Rounding.{paper};
-ghost use Rattle.formulas.specs.Formulas.{joule, vapourRate, vapour, dryHeat, vapourHeat, flueHeat, monoxideHeat, x7, x8};
+ghost use Rattle.formulas.specs.Formulas.{joule, Burning as AnyBurning, burning as burningIn, vapourRate, vapour, dryHeat, vapourHeat, flueHeat, monoxideHeat, x7, x8};
 ghost use Rattle.formulas.specs.Figures.{Figure};
 ghost use Rattle.formulas.specs.Steps.{ProductFits, stagesOf};
-ghost use Rattle.fuel.specs.Mixture.{Burnt};
+ghost use Rattle.fuel.specs.Mixture.{burning as burningOf};
 ghost use Rattle.flue.specs.Steps.{DryFits, RateFits, BurnsIn, Volume, FilledIn, DryIn, MoistIn, FlueIn, AllFlueIn};
 use formulas::block::held;
 use formulas::rounding::Microjoules;
@@ -26,7 +26,7 @@ use quantity::temperature::Rise;
 use sheet::Stage;
 use sheet::Stages;
 
-// Dry flue gas for a cubic metre of fuel, in 1e-9 m³.
+// Dry flue gas for a unit of fuel, in 1e-9 m³.
 pub struct DryRate(pub i64);
 
 // Dry flue gas of a stage: exact, in 1e-10 m³, and rounded, in 1e-5 m³.
@@ -34,10 +34,13 @@ pub struct DryExact(pub i64);
 
 pub struct DryFlue(pub i64);
 
-// Vapour for a cubic metre of fuel: exact, in 1e-16/56 kg, and rounded, in 1e-9 kg.
+// Vapour for a unit of fuel: exact, in 1e-16/56 kg, and rounded, in 1e-9 kg.
 pub struct RateExact(pub i64);
 
 pub struct VapourRate(pub i64);
+
+// Specific heat of dry flue gas, in 0.001 kJ/(m³·°C).
+pub struct FlueCapacity(pub i64);
 
 // Vapour of a stage: exact, in 1e-10 kg, and rounded, in 1e-6 kg.
 pub struct VapourExact(pub i64);
@@ -71,12 +74,12 @@ impl VapourExact {
     }
 }
 
-// Formula B.10 with B.4 put in: the dry flue gas for a cubic metre of fuel.
+// Formula B.10 with B.4 put in: the dry flue gas for a unit of fuel.
 fn dry_rate(burning: Burning, excess: ExcessAir) -> DryRate
     requires { ⌜ DryFits (excess .0) (burning .dry) (burning .air) ⌝ }
-    ensures { λ r. ⌜ r .0 ≡ burning .dry *ℤ pos 100000 +ℤ (excess .0 -ℤ pos 210) *ℤ burning .air ⌝ }
+    ensures { λ r. ⌜ r .0 ≡ burning .dry +ℤ (excess .0 -ℤ pos 210) *ℤ burning .air ⌝ }
 {
-    DryRate(burning.dry * 100_000 + (excess.0 as i64 - 210) * burning.air)
+    DryRate(burning.dry + (excess.0 as i64 - 210) * burning.air)
 }
 
 // The dry flue gas of all fuel of a stage.
@@ -89,8 +92,8 @@ fn dry_exact(gas: CubicMetres, rate: DryRate) -> DryExact
 
 // The dry flue gas of a stage.
 fn dry_flue(burning: Burning, stage: Stage) -> DryFlue
-    requires { ⌜ BurnsIn burning (stageOf stage) ⌝ }
-    ensures { λ r. ⌜ ((g : Gas) → Burnt g burning → Volume g (stageOf stage) (r .0)) ⌝ }
+    requires { ⌜ BurnsIn (burningOf burning) (stageOf stage) ⌝ }
+    ensures { λ r. ⌜ Volume (burningOf burning) (stageOf stage) (r .0) ⌝ }
 {
     dry_exact(stage.gas, dry_rate(burning, stage.excess)).rounded()
 }
@@ -98,18 +101,15 @@ fn dry_flue(burning: Burning, stage: Stage) -> DryFlue
 // Formula B.15.
 fn rate_exact(burning: Burning, moisture: Moisture, stage: Stage) -> RateExact
     requires { ⌜ RateFits (stage .excess .0) (burning .air) (moisture .0) (burning .vapour) ⌝ }
-    ensures { λ r. ⌜ r .0 ≡ pos 1293 *ℤ stage .excess .0 *ℤ burning .air *ℤ moisture .0 *ℤ pos 56 +ℤ burning .vapour *ℤ pos 45000000000000 ⌝ }
+    ensures { λ r. ⌜ r .0 ≡ pos 1293 *ℤ stage .excess .0 *ℤ burning .air *ℤ moisture .0 *ℤ pos 56 +ℤ burning .vapour ⌝ }
 {
-    RateExact(
-        1293 * stage.excess.0 as i64 * burning.air * moisture.0 as i64 * 56
-            + burning.vapour * 45_000_000_000_000,
-    )
+    RateExact(1293 * stage.excess.0 as i64 * burning.air * moisture.0 as i64 * 56 + burning.vapour)
 }
 
-// The vapour for a cubic metre of fuel.
+// The vapour for a unit of fuel.
 fn vapour_rate(burning: Burning, moisture: Moisture, stage: Stage) -> VapourRate
-    requires { ⌜ MoistIn burning (moisture .0) (stageOf stage) ⌝ }
-    ensures { λ r. ⌜ ((g : Gas) → Burnt g burning → Figure (56 * 10 ^ 7) 14019212143 (r .0) (vapourRate paper g (moisture .0) (stageOf stage))) ⌝ }
+    requires { ⌜ MoistIn (burningOf burning) (moisture .0) (stageOf stage) ⌝ }
+    ensures { λ r. ⌜ Figure (56 * 10 ^ 7) 14019212143 (r .0) (vapourRate paper (burningOf burning) (moisture .0) (stageOf stage)) ⌝ }
 {
     rate_exact(burning, moisture, stage).rounded()
 }
@@ -124,27 +124,27 @@ fn vapour_exact(rate: VapourRate, gas: CubicMetres) -> VapourExact
 
 // The vapour of a stage.
 fn vapour(burning: Burning, moisture: Moisture, stage: Stage) -> VapourMass
-    requires { ⌜ MoistIn burning (moisture .0) (stageOf stage) ⌝ }
-    ensures { λ r. ⌜ ((g : Gas) → Burnt g burning → Figure (56 * 10 ^ 11) 280384242860 (r .0) (vapour paper g (moisture .0) (stageOf stage))) ⌝ }
+    requires { ⌜ MoistIn (burningOf burning) (moisture .0) (stageOf stage) ⌝ }
+    ensures { λ r. ⌜ Figure (56 * 10 ^ 11) 280384242860 (r .0) (vapour paper (burningOf burning) (moisture .0) (stageOf stage)) ⌝ }
 {
     vapour_exact(vapour_rate(burning, moisture, stage), stage.gas).rounded()
 }
 
 // V c (flue − t) of the dry flue gas.
-fn dry_carried(volume: DryFlue, rise: Rise) -> Microjoules
-    requires { ⌜ ProductFits (volume .0) (pos 1384) (rise .0) ⌝ }
-    ensures { λ r. ⌜ r .0 ≡ volume .0 *ℤ pos 1384 *ℤ rise .0 ⌝ }
+fn dry_carried(volume: DryFlue, c: FlueCapacity, rise: Rise) -> Microjoules
+    requires { ⌜ ProductFits (volume .0) (c .0) (rise .0) ⌝ }
+    ensures { λ r. ⌜ r .0 ≡ volume .0 *ℤ c .0 *ℤ rise .0 ⌝ }
 {
-    Microjoules(volume.0 * 1384 * rise.0)
+    Microjoules(volume.0 * c.0 * rise.0)
 }
 
 // The heat of a stage's dry flue gas.
-fn dry_heat(volume: DryFlue, stage: Stage, t: Degrees) -> Joules
-    requires { ⌜ DryIn (volume .0) (stageOf stage) (t .0) ⌝ }
-    ensures { λ r. ⌜ ((g : Gas) → Volume g (stageOf stage) (volume .0) → Figure joule 5139820920960 (r .0) (dryHeat paper g (t .0) (stageOf stage))) ⌝ }
+fn dry_heat(volume: DryFlue, c: FlueCapacity, stage: Stage, t: Degrees) -> Joules
+    requires { ⌜ DryIn (volume .0) (c .0) (stageOf stage) (t .0) ⌝ }
+    ensures { λ r. ⌜ ((b : AnyBurning) → Volume b (stageOf stage) (volume .0) → Figure joule 5139820920960 (r .0) (dryHeat paper b (c .0) (t .0) (stageOf stage))) ⌝ }
 {
     let rise = stage.flue.degrees().above(t);
-    dry_carried(volume, rise).joules()
+    dry_carried(volume, c, rise).joules()
 }
 
 // m c (flue − t) of the vapour.
@@ -157,8 +157,8 @@ fn vapour_carried(mass: VapourMass, rise: Rise) -> Microjoules
 
 // The heat of a stage's vapour.
 fn vapour_heat(burning: Burning, moisture: Moisture, stage: Stage, t: Degrees) -> Joules
-    requires { ⌜ FlueIn burning (moisture .0) (stageOf stage) (t .0) ⌝ }
-    ensures { λ r. ⌜ ((g : Gas) → Burnt g burning → Figure joule 660192738239 (r .0) (vapourHeat paper g (moisture .0) (t .0) (stageOf stage))) ⌝ }
+    requires { ⌜ FlueIn (burningOf burning) (moisture .0) (stageOf stage) (t .0) ⌝ }
+    ensures { λ r. ⌜ Figure joule 660192738239 (r .0) (vapourHeat paper (burningOf burning) (moisture .0) (t .0) (stageOf stage)) ⌝ }
 {
     let rise = stage.flue.degrees().above(t);
     vapour_carried(vapour(burning, moisture, stage), rise).joules()
@@ -175,7 +175,7 @@ fn unburnt(volume: DryFlue, co: CarbonMonoxide) -> Microjoules
 // Formula 23: the heat that a stage's carbon monoxide would have given.
 fn monoxide_heat(volume: DryFlue, stage: Stage) -> Joules
     requires { ⌜ FilledIn (volume .0) (stageOf stage) ⌝ }
-    ensures { λ r. ⌜ ((g : Gas) → Volume g (stageOf stage) (volume .0) → Figure joule 3881166300000 (r .0) (monoxideHeat paper g (stageOf stage))) ⌝ }
+    ensures { λ r. ⌜ ((b : AnyBurning) → Volume b (stageOf stage) (volume .0) → Figure joule 3881166300000 (r .0) (monoxideHeat paper b (stageOf stage))) ⌝ }
 {
     unburnt(volume, stage.co).joules()
 }
@@ -188,12 +188,13 @@ pub struct FlueHeats {
 
 // Both heats of a stage, from the dry flue gas that is worked once.
 fn stage_heats(burning: Burning, moisture: Moisture, stage: Stage, t: Degrees) -> FlueHeats
-    requires { ⌜ FlueIn burning (moisture .0) (stageOf stage) (t .0) ⌝ }
-    ensures { λ r. ⌜ ((g : Gas) → Burnt g burning → Figure joule 5800013659199 (r .x7 .0) (flueHeat paper g (moisture .0) (t .0) (stageOf stage))) ⌝ }
-    ensures { λ r. ⌜ ((g : Gas) → Burnt g burning → Figure joule 3881166300000 (r .x8 .0) (monoxideHeat paper g (stageOf stage))) ⌝ }
+    requires { ⌜ FlueIn (burningOf burning) (moisture .0) (stageOf stage) (t .0) ⌝ }
+    ensures { λ r. ⌜ Figure joule 5800013659199 (r .x7 .0) (flueHeat paper (burningOf burning) (moisture .0) (t .0) (stageOf stage)) ⌝ }
+    ensures { λ r. ⌜ Figure joule 3881166300000 (r .x8 .0) (monoxideHeat paper (burningOf burning) (stageOf stage)) ⌝ }
 {
     let volume = dry_flue(burning, stage);
-    let dry = dry_heat(volume, stage, t);
+    let c = FlueCapacity(1384);
+    let dry = dry_heat(volume, c, stage, t);
     let x7 = dry.plus(vapour_heat(burning, moisture, stage, t));
     let x8 = monoxide_heat(volume, stage);
     FlueHeats { x7, x8 }
@@ -201,9 +202,9 @@ fn stage_heats(burning: Burning, moisture: Moisture, stage: Stage, t: Degrees) -
 
 // Both heats of all stages, in one loop: each loop over the array costs a copy of it.
 pub fn flue_heats(burning: Burning, moisture: Moisture, stages: Stages, t: Degrees) -> FlueHeats
-    requires { ⌜ AllFlueIn burning (moisture .0) (stagesOf stages) (t .0) ⌝ }
-    ensures { λ r. ⌜ ((f : Firing) → Burnt (f .gas) burning → f .moisture ≡ moisture .0 → f .stages ≡ stagesOf stages → f .ambient ≡ t .0 → Figure joule 69600163910388 (r .x7 .0) (x7 f paper)) ⌝ }
-    ensures { λ r. ⌜ ((f : Firing) → Burnt (f .gas) burning → f .stages ≡ stagesOf stages → Figure joule 46573995600000 (r .x8 .0) (x8 f paper)) ⌝ }
+    requires { ⌜ AllFlueIn (burningOf burning) (moisture .0) (stagesOf stages) (t .0) ⌝ }
+    ensures { λ r. ⌜ ((f : Firing) → burningIn f ≡ burningOf burning → f .moisture ≡ moisture .0 → f .stages ≡ stagesOf stages → f .ambient ≡ t .0 → Figure joule 69600163910388 (r .x7 .0) (x7 f paper)) ⌝ }
+    ensures { λ r. ⌜ ((f : Firing) → burningIn f ≡ burningOf burning → f .stages ≡ stagesOf stages → Figure joule 46573995600000 (r .x8 .0) (x8 f paper)) ⌝ }
 {
     let lines = stages.lines;
     let count = held(stages.count.0, 12);

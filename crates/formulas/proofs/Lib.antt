@@ -1,3 +1,4 @@
 pub mod Units
 pub mod Sizes
 pub mod Sums
+pub mod Balance01

@@ -60,9 +60,6 @@ module _ (f : Firing) (r : Rounding) where
   unfoldable pub q8 : ℤ
   q8 = sum (λ x. sensible r (x .mass) (x .stuff) (x .before) (f .ambient)) (f .parts)
 
-  unfoldable pub income : ℤ
-  income = q1 +ℤ q2 +ℤ q3 +ℤ q5 +ℤ q8
-
   -- ---- Expenditure
   unfoldable pub x1 : ℤ
   x1 = sensible r (f .product) (f .ware .stuff) (f .ware .highest) (f .ware .entry)
@@ -100,38 +97,55 @@ vapourOfGas g =
     g .h2 +ℤ pos 2 *ℤ g .ch4 +ℤ (pos 2 *ℤ g .c2h4 +ℤ pos 3 *ℤ g .c2h6 +ℤ pos 4 *ℤ g .c3h8 +ℤ pos 5 *ℤ g .c4h10)
     +ℤ g .h2s +ℤ g .h2o
 
+-- WHAT A UNIT OF FUEL ASKS AND GIVES: theoretical air in 1e-6 m³, dry flue of its own in 1e-9 m³, vapour of its own in 1e-16/56 kg
+pub record Burning : Type 0 where
+  pub air : ℤ
+  pub dry : ℤ
+  pub vapour : ℤ
+
+-- a cubic metre of gas; 18/22.4 kg of vapour to the cubic metre is 45/56
+unfoldable pub ofGas : Gas → Burning
+ofGas g = record { air = theoreticalAir g; dry = dryOfGas g *ℤ pos (10 ^ 5); vapour = vapourOfGas g *ℤ pos (45 * 10 ^ 12) }
+
+abbrev pub burning : Firing → Burning
+burning f = ofGas (f .gas)
+
+-- c of a stage's dry flue in 0.001 kJ/(m³·°C)
+abbrev pub flueCapacity : Stage → ℤ
+flueCapacity s = pos 1384
+
 module _ (r : Rounding) where
   -- (B.10) with (B.4): a stage's dry flue in 1e-10 m³, to 1e-5 m³
-  unfoldable pub dryFlue : Gas → Stage → ℤ
-  dryFlue g s = r .to (10 ^ 5) (s .gas *ℤ (dryOfGas g *ℤ pos (10 ^ 5) +ℤ (s .excess -ℤ pos 210) *ℤ theoreticalAir g))
+  unfoldable pub dryFlue : Burning → Stage → ℤ
+  dryFlue b s = r .to (10 ^ 5) (s .gas *ℤ (b .dry +ℤ (s .excess -ℤ pos 210) *ℤ b .air))
 
-  -- (B.15): vapour per m³ in 1e-16/56 kg, to 1e-9 kg; X in 0.0001 kg per kg; 18/22.4 is 45/56
-  unfoldable pub vapourRate : Gas → ℤ → Stage → ℤ
-  vapourRate g X s = r .to (56 * 10 ^ 7) (pos 1293 *ℤ s .excess *ℤ theoreticalAir g *ℤ X *ℤ pos 56 +ℤ vapourOfGas g *ℤ pos (45 * 10 ^ 12))
+  -- (B.15): vapour per unit of fuel in 1e-16/56 kg, to 1e-9 kg; X in 0.0001 kg per kg
+  unfoldable pub vapourRate : Burning → ℤ → Stage → ℤ
+  vapourRate b X s = r .to (56 * 10 ^ 7) (pos 1293 *ℤ s .excess *ℤ b .air *ℤ X *ℤ pos 56 +ℤ b .vapour)
 
   -- a stage's vapour in 1e-17/56 kg, to 1e-6 kg
-  unfoldable pub vapour : Gas → ℤ → Stage → ℤ
-  vapour g X s = r .to (56 * 10 ^ 11) (vapourRate g X s *ℤ s .gas)
+  unfoldable pub vapour : Burning → ℤ → Stage → ℤ
+  vapour b X s = r .to (56 * 10 ^ 11) (vapourRate b X s *ℤ s .gas)
 
-  unfoldable pub dryHeat : Gas → ℤ → Stage → ℤ
-  dryHeat g t s = r .to joule (parts (10 ^ 11) (dryFlue g s *ℤ pos 1384 *ℤ (s .flue -ℤ t)))
+  unfoldable pub dryHeat : Burning → ℤ → ℤ → Stage → ℤ
+  dryHeat b c t s = r .to joule (parts (10 ^ 11) (dryFlue b s *ℤ c *ℤ (s .flue -ℤ t)))
 
-  unfoldable pub vapourHeat : Gas → ℤ → ℤ → Stage → ℤ
-  vapourHeat g X t s = r .to joule (parts (56 * 10 ^ 17) (vapour g X s *ℤ pos 193 *ℤ (s .flue -ℤ t)))
+  unfoldable pub vapourHeat : Burning → ℤ → ℤ → Stage → ℤ
+  vapourHeat b X t s = r .to joule (parts (56 * 10 ^ 17) (vapour b X s *ℤ pos 193 *ℤ (s .flue -ℤ t)))
 
-  unfoldable pub flueHeat : Gas → ℤ → ℤ → Stage → ℤ
-  flueHeat g X t s = dryHeat g t s +ℤ vapourHeat g X t s
+  unfoldable pub flueHeat : Burning → ℤ → ℤ → Stage → ℤ
+  flueHeat b X t s = dryHeat b (flueCapacity s) t s +ℤ vapourHeat b X t s
 
   -- (23): the CO share as a fraction
-  unfoldable pub monoxideHeat : Gas → Stage → ℤ
-  monoxideHeat g s = r .to joule (parts (10 ^ 11) (dryFlue g s *ℤ s .co *ℤ pos 12750))
+  unfoldable pub monoxideHeat : Burning → Stage → ℤ
+  monoxideHeat b s = r .to joule (parts (10 ^ 11) (dryFlue b s *ℤ s .co *ℤ pos 12750))
 
 module _ (f : Firing) (r : Rounding) where
   unfoldable pub x7 : ℤ
-  x7 = sum (flueHeat r (f .gas) (f .moisture) (f .ambient)) (f .stages)
+  x7 = sum (flueHeat r (burning f) (f .moisture) (f .ambient)) (f .stages)
 
   unfoldable pub x8 : ℤ
-  x8 = sum (monoxideHeat r (f .gas)) (f .stages)
+  x8 = sum (monoxideHeat r (burning f)) (f .stages)
 
 -- ---- Surface. A of formula 25 in 0.01, by place: roof, wall, floor
 abbrev pub placed : ℕ → ℕ
@@ -177,14 +191,8 @@ module _ (r : Rounding) where
 unfoldable pub x9 : Firing → Rounding → ℤ
 x9 f r = sum (λ w. wallHeat r (sectionOf f w) (stageOf f w) w) (f .walls)
 
--- ---- Rest (32, 33)
+-- ---- Useful (32, 33)
 module _ (f : Firing) (r : Rounding) where
-  unfoldable pub spent : ℤ
-  spent = x1 f r +ℤ x2 f r +ℤ x3 f r +ℤ x5 f r +ℤ x7 f r +ℤ x8 f r +ℤ x9 f r +ℤ x10 f r
-
-  unfoldable pub x11 : ℤ
-  x11 = income f r -ℤ spent
-
   -- J per kg: to 100 °C, to steam, and the steam on by Δ °C
   abbrev pub boiled : ℕ → ℤ
   boiled Δ = (pos 1000 -ℤ f .ware .entry) *ℤ pos 418 +ℤ (pos 2260000 +ℤ pos Δ *ℤ pos 1930)

@@ -9,7 +9,8 @@ use Rattle.arith.specs.Root.{root, rootIn}
 use Rattle.sheet.specs.Firing.{Gas, Stuff, Stage, Section, Wall, Firing}
 use Rattle.sheet.specs.Shown.{same}
 use Rattle.formulas.specs.Rounding.{paper}
-use Rattle.formulas.specs.Formulas.{joule, sum, specificHeat, sensible, mixedHeat, theoreticalAir, dryOfGas, vapourOfGas, dryFlue, vapourRate, vapour, dryHeat, vapourHeat, flueHeat, monoxideHeat, numbered, convection, radiation, flux, wallHeat, q1, q2, q3, q5, q8, income, x1, x2, x3, x5, x7, x8, x9, x10, spent, x11, waterHeat, useful, withset}
+use Rattle.formulas.specs.Formulas.{joule, sum, specificHeat, sensible, mixedHeat, theoreticalAir, dryOfGas, vapourOfGas, ofGas, dryFlue, vapourRate, vapour, dryHeat, vapourHeat, flueHeat, monoxideHeat, numbered, convection, radiation, flux, wallHeat, q1, q2, q3, q5, q8, x1, x2, x3, x5, x7, x8, x9, x10, waterHeat, useful, withset}
+use Rattle.formulas.specs.Items.{shuttle, total, x11}
 
 abbrev methane : Gas
 methane = record {
@@ -82,8 +83,8 @@ cases =
     ∷ case (specificHeat (only 3) (pos 8000)) 11240000 1  -- corundum at 800.0: 1.124
     ∷ case (specificHeat (only 3) (pos 8001)) 11344418 1  -- at 800.1: 1.1344418
     ∷ case (theoreticalAir methane) 9520000 1  -- 9.52
-    ∷ case (dryFlue paper methane stage) 94728 (2000 * 10 ^ 5)  -- 9.4728 per m³
-    ∷ case (vapourRate paper methane (pos 0) stage) 1607142857 (56 * 10 ^ 7)  -- in dry air 1.607142857
+    ∷ case (dryFlue paper (ofGas methane) stage) 94728 (2000 * 10 ^ 5)  -- 9.4728 per m³
+    ∷ case (vapourRate paper (ofGas methane) (pos 0) stage) 1607142857 (56 * 10 ^ 7)  -- in dry air 1.607142857
     ∷ case (convection paper section wall) 55296000 (10 ^ 9)  -- 552.96000
     ∷ case (radiation paper wall) 19731127 (10 ^ 9)  -- 197.31127
     ∷ case (flux paper section still) 0 1
@@ -93,7 +94,7 @@ cases =
     ∷ case (q3 worked paper) 0 joule
     ∷ case (q5 worked paper) 0 joule
     ∷ case (q8 worked paper) 0 joule
-    ∷ case (income worked paper) 7000000000 joule
+    ∷ case (total (shuttle .incomes) worked paper) 7000000000 joule
     ∷ case (x1 worked paper) 1200000000 joule
     ∷ case (x2 worked paper) 287600000 joule
     ∷ case (x3 worked paper) 544000000 joule
@@ -102,7 +103,7 @@ cases =
     ∷ case (x8 worked paper) 0 joule
     ∷ case (x9 worked paper) 270097657 joule
     ∷ case (x10 worked paper) 1201440000 joule
-    ∷ case (x11 worked paper) 302919797 joule
+    ∷ case (x11 shuttle worked paper) 302919797 joule
     ∷ case (useful worked paper) 2049277500 joule
     ∷ case (withset worked paper) 2649277500 joule
     -- printed per tonne, 2,049,277.5 is 2,049,278; and over q1, in 0.01 %
@@ -115,7 +116,7 @@ holds [] = true
 holds (c ∷ l) = same (c .computed) (pos (c .said * c .unit)) && holds l
 
 marked : T (holds cases)
-unfolding holds cases nearest nearestℕ tie root rootIn sum specificHeat sensible mixedHeat theoreticalAir dryOfGas vapourOfGas dryFlue vapourRate vapour dryHeat vapourHeat flueHeat monoxideHeat numbered convection radiation flux wallHeat q1 q2 q3 q5 q8 income x1 x2 x3 x5 x7 x8 x9 x10 spent x11 waterHeat useful withset
+unfolding holds cases nearest nearestℕ tie root rootIn sum specificHeat sensible mixedHeat theoreticalAir dryOfGas vapourOfGas ofGas dryFlue vapourRate vapour dryHeat vapourHeat flueHeat monoxideHeat numbered convection radiation flux wallHeat q1 q2 q3 q5 q8 x1 x2 x3 x5 x7 x8 x9 x10 total x11 waterHeat useful withset
 marked = tt
 
 -- each fraction of a joule that the formulas name is a whole number of the unit

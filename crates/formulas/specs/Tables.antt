@@ -1,6 +1,6 @@
 -- The tables of document 01: A.2 of the refractories by material code, and A.1 of the gases in the gas line's order, with what each gas
 -- asks of the air and gives to the flue.
-use Prim.Native.Nat.{ℕ}
+use Prim.Native.Nat.{ℕ, _*_, _^_}
 use mathlib.Core.Bool.{cond}
 use mathlib.Core.List.{List, [], _∷_}
 use lib.Dec.{eqb}
@@ -46,9 +46,10 @@ lineOf m T = cond (leZ T (pos 8000)) m (cond (eqb m 3) 19 (cond (eqb m 12) 20 m)
 abbrev pub lineAt : ℕ → Line
 lineAt i = getD tableA2 i (line 0 0)
 
--- c at 0 and at 100 °C in 0.001 kJ/(m³·°C); and for each share: theoretical air in 0.0001 (B.3), m³ of dry flue (B.10) and of vapour (B.15)
+-- c at 0 and at 100 °C in 0.001 kJ/(m³·°C); and for each share, in the units of `Burning`: theoretical air (B.3), and from the m³ of dry flue
+-- (B.10) and of vapour (B.15) that a m³ of the gas gives
 abbrev pub kind : ℕ → ℕ → ℤ → ℕ → ℕ → Kind
-kind c h a d v = record { cold = pos c; hot = pos h; air = a; dry = pos d; vapour = pos v }
+kind c h a d v = record { cold = pos c; hot = pos h; air = a; dry = pos (d * 10 ^ 5); vapour = pos (v * (45 * 10 ^ 12)) }
 
 abbrev pub tableA1 : List Kind
 tableA1 =

@@ -9,8 +9,8 @@ pub struct Line {
     pub b: i64,
 }
 
-// A gas of table A.1: c at 0 and at 100 °C in 0.001 kJ/(m³·°C), and for each share of it the theoretical air in 0.0001 and the
-// cubic metres of dry flue and of vapour.
+// A gas of table A.1: c at 0 and at 100 °C in 0.001 kJ/(m³·°C), and for each share of it the theoretical air in 1e-6 m³, the dry flue in
+// 1e-9 m³ and the vapour in 1e-16/56 kg.
 pub struct Kind {
     pub cold: i64,
     pub hot: i64,

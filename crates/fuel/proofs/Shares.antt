@@ -1,6 +1,6 @@
 -- Sums of the shares of a fuel by a column of table A.1: one gas more, the formulas of document 01 as columns, and the size of a column's
 -- sum, which is at most its largest weight for each share. Assumes nothing.
-use Prim.Native.Nat.{ℕ, zero, suc, _+_, _*_, _≤_, _<_}
+use Prim.Native.Nat.{ℕ, zero, suc, _+_, _*_, _^_, _≤_, _<_}
 use mathlib.Core.Path.{_≡_, refl, sym, ap, ap₂, _∙_, subst}
 use mathlib.Core.Bool.{Bool, true, false, _&&_}
 use mathlib.Core.List.{List, [], _∷_, map}
@@ -24,7 +24,7 @@ use Rattle.lines.specs.Rows.{gasRow}
 use Rattle.lines.specs.Limits.{In, GasIn}
 use Rattle.formulas.specs.declared.Kind.{Kind}
 use Rattle.formulas.specs.Tables.{tableA1, kind}
-use Rattle.formulas.specs.Formulas.{mixedHeat, theoreticalAir, dryOfGas, vapourOfGas}
+use Rattle.formulas.specs.Formulas.{mixedHeat, theoreticalAir, dryOfGas, vapourOfGas, ofGas}
 use Rattle.formulas.specs.Figures.{Within}
 use Rattle.fuel.specs.Mixture.{Fits}
 use Rattle.formulas.proofs.Sizes.{sized, entry}
@@ -96,8 +96,8 @@ module _ (g : Gas) where
   abbrev airEx : Ex
   airEx = # 238 ⊗ (v 2 ⊕ v 0) ⊕ # 952 ⊗ v 6 ⊕ # 238 ⊗ (# 6 ⊗ v 7 ⊕ # 7 ⊗ v 8 ⊕ # 10 ⊗ v 9 ⊕ # 13 ⊗ v 10) ⊕ # 714 ⊗ v 11 ⊖ # 476 ⊗ v 3
 
-  pub air-is : weigh airs shares ≡ theoreticalAir g
-  unfolding theoreticalAir
+  pub air-is : weigh airs shares ≡ ofGas g .air
+  unfolding ofGas theoreticalAir
   air-is = ring shares (column airs 0) airEx tt
 
   -- the same weights as refusal 5 has
@@ -105,13 +105,13 @@ module _ (g : Gas) where
   unfolding theoreticalAir
   air-weights = ring shares airEx (# 238 ⊗ column airWeights 0) tt
 
-  pub dry-is : weigh dries shares ≡ dryOfGas g
-  unfolding dryOfGas
-  dry-is = ring shares (column dries 0) (v 2 ⊕ v 6 ⊕ (# 2 ⊗ v 7 ⊕ # 2 ⊗ v 8 ⊕ # 3 ⊗ v 9 ⊕ # 4 ⊗ v 10) ⊕ v 1 ⊕ v 5 ⊕ v 11 ⊕ v 12) tt
+  pub dry-is : weigh dries shares ≡ ofGas g .dry
+  unfolding ofGas dryOfGas
+  dry-is = ring shares (column dries 0) ((v 2 ⊕ v 6 ⊕ (# 2 ⊗ v 7 ⊕ # 2 ⊗ v 8 ⊕ # 3 ⊗ v 9 ⊕ # 4 ⊗ v 10) ⊕ v 1 ⊕ v 5 ⊕ v 11 ⊕ v 12) ⊗ # (10 ^ 5)) tt
 
-  pub vapour-is : weigh vapours shares ≡ vapourOfGas g
-  unfolding vapourOfGas
-  vapour-is = ring shares (column vapours 0) (v 0 ⊕ # 2 ⊗ v 6 ⊕ (# 2 ⊗ v 7 ⊕ # 3 ⊗ v 8 ⊕ # 4 ⊗ v 9 ⊕ # 5 ⊗ v 10) ⊕ v 11 ⊕ v 4) tt
+  pub vapour-is : weigh vapours shares ≡ ofGas g .vapour
+  unfolding ofGas vapourOfGas
+  vapour-is = ring shares (column vapours 0) ((v 0 ⊕ # 2 ⊗ v 6 ⊕ (# 2 ⊗ v 7 ⊕ # 3 ⊗ v 8 ⊕ # 4 ⊗ v 9 ⊕ # 5 ⊗ v 10) ⊕ v 11 ⊕ v 4) ⊗ # (45 * 10 ^ 12)) tt
 
   pub heat-is : (T₁ : ℤ) → weigh colds shares *ℤ pos 1000 +ℤ weigh rises shares *ℤ T₁ ≡ mixedHeat g T₁
   unfolding mixedHeat

@@ -6,9 +6,9 @@ use mir.Val.{SFits}
 use Rattle.sheet.specs.Firing.{Gas}
 use Rattle.formulas.specs.declared.Kind.{Kind}
 use Rattle.fuel.specs.declared.mixture.Warmth.{Warmth}
-use Rattle.fuel.specs.declared.mixture.Burning.{Burning}
-use Rattle.formulas.specs.Formulas.{mixedHeat, theoreticalAir, dryOfGas, vapourOfGas}
-use Rattle.formulas.specs.Figures.{Within, Exact}
+use Rattle.fuel.specs.declared.mixture.Burning.{Burning as Burningˢ}
+use Rattle.formulas.specs.Formulas.{mixedHeat, Burning, ofGas}
+use Rattle.formulas.specs.Figures.{Within}
 
 -- a column's sum with one gas more, which does not overflow
 pub record Fits (sum weight share : ℤ) : Type 0 where
@@ -32,18 +32,27 @@ pub record Warmed (g : Gas) (m : Warmth) : Type 0 where
   pub rise : Within 11280000 (m .rise)
 
 -- ---- burning
-pub record BurningFits (m : Burning) (k : Kind) (share : ℤ) : Type 0 where
+pub record BurningFits (m : Burningˢ) (k : Kind) (share : ℤ) : Type 0 where
   pub air : Fits (m .air) (k .air) share
   pub dry : Fits (m .dry) (k .dry) share
   pub vapour : Fits (m .vapour) (k .vapour) share
 
-pub record Brighter (m : Burning) (k : Kind) (share : ℤ) (r : Burning) : Type 0 where
+pub record Brighter (m : Burningˢ) (k : Kind) (share : ℤ) (r : Burningˢ) : Type 0 where
   pub air : r .air ≡ m .air +ℤ k .air *ℤ share
   pub dry : r .dry ≡ m .dry +ℤ k .dry *ℤ share
   pub vapour : r .vapour ≡ m .vapour +ℤ k .vapour *ℤ share
 
--- of a fuel
-pub record Burnt (g : Gas) (m : Burning) : Type 0 where
-  pub air : Exact 30940000 (m .air) (theoreticalAir g)
-  pub dry : Exact 40000 (m .dry) (dryOfGas g)
-  pub vapour : Exact 50000 (m .vapour) (vapourOfGas g)
+-- a struct's record
+abbrev pub burning : Burningˢ → Burning
+burning m = record { air = m .air; dry = m .dry; vapour = m .vapour }
+
+-- what no fuel exceeds
+pub record BurningIn (b : Burning) : Type 0 where
+  pub air : Within 30940000 (b .air)
+  pub dry : Within 4000000000 (b .dry)
+  pub vapour : Within 2250000000000000000 (b .vapour)
+
+-- of a gas
+pub record Burns (g : Gas) (m : Burningˢ) : Type 0 where
+  pub is : burning m ≡ ofGas g
+  pub within : BurningIn (burning m)

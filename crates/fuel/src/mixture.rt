@@ -1,7 +1,7 @@
 // The fuel as a mixture of gases: its specific heat, the air that it asks and the flue that it gives.
 ghost use Rattle.sheet.specs.Shown.{gas as gasOf};
 ghost use Rattle.lines.specs.Limits.{GasIn};
-ghost use Rattle.fuel.specs.Mixture.{WarmthFits, Warmer, Warmed, BurningFits, Brighter, Burnt};
+ghost use Rattle.fuel.specs.Mixture.{WarmthFits, Warmer, Warmed, BurningFits, Brighter, Burns};
 use formulas::Kind;
 use quantity::gas::Share;
 
@@ -11,7 +11,7 @@ pub struct Warmth {
     pub rise: i64,
 }
 
-// What they come to in burning: theoretical air in 1e-6 m³ per m³, dry flue and vapour in 1e-4 m³ per m³.
+// What a unit of fuel asks and gives: theoretical air in 1e-6 m³, dry flue in 1e-9 m³, vapour in 1e-16/56 kg.
 pub struct Burning {
     pub air: i64,
     pub dry: i64,
@@ -25,20 +25,20 @@ const TABLE_A1: [Kind; 13] = [
         hot: 1287,
         air: 238,
         dry: 0,
-        vapour: 1,
+        vapour: 45_000_000_000_000,
     },
     Kind {
         cold: 1296,
         hot: 1300,
         air: 0,
-        dry: 1,
+        dry: 100_000,
         vapour: 0,
     },
     Kind {
         cold: 1300,
         hot: 1301,
         air: 238,
-        dry: 1,
+        dry: 100_000,
         vapour: 0,
     },
     Kind {
@@ -53,62 +53,62 @@ const TABLE_A1: [Kind; 13] = [
         hot: 1501,
         air: 0,
         dry: 0,
-        vapour: 1,
+        vapour: 45_000_000_000_000,
     },
     Kind {
         cold: 1597,
         hot: 1697,
         air: 0,
-        dry: 1,
+        dry: 100_000,
         vapour: 0,
     },
     Kind {
         cold: 1563,
         hot: 1651,
         air: 952,
-        dry: 1,
-        vapour: 2,
+        dry: 100_000,
+        vapour: 90_000_000_000_000,
     },
     Kind {
         cold: 1869,
         hot: 2103,
         air: 1428,
-        dry: 2,
-        vapour: 2,
+        dry: 200_000,
+        vapour: 90_000_000_000_000,
     },
     Kind {
         cold: 2061,
         hot: 2061,
         air: 1666,
-        dry: 2,
-        vapour: 3,
+        dry: 200_000,
+        vapour: 135_000_000_000_000,
     },
     Kind {
         cold: 3043,
         hot: 3959,
         air: 2380,
-        dry: 3,
-        vapour: 4,
+        dry: 300_000,
+        vapour: 180_000_000_000_000,
     },
     Kind {
         cold: 4122,
         hot: 5250,
         air: 3094,
-        dry: 4,
-        vapour: 5,
+        dry: 400_000,
+        vapour: 225_000_000_000_000,
     },
     Kind {
         cold: 1530,
         hot: 1559,
         air: 714,
-        dry: 1,
-        vapour: 1,
+        dry: 100_000,
+        vapour: 45_000_000_000_000,
     },
     Kind {
         cold: 1777,
         hot: 1860,
         air: 0,
-        dry: 1,
+        dry: 100_000,
         vapour: 0,
     },
 ];
@@ -155,7 +155,7 @@ fn brighter(sum: Burning, kind: Kind, share: Share) -> Burning
 // The burning of a sheet's fuel.
 pub fn burning_of(gas: [Share; 13]) -> Burning
     requires { ⌜ GasIn (gasOf gas) ⌝ }
-    ensures { λ r. ⌜ Burnt (gasOf gas) r ⌝ }
+    ensures { λ r. ⌜ Burns (gasOf gas) r ⌝ }
 {
     let kinds = TABLE_A1;
     let mut sum = Burning {

@@ -1,14 +1,21 @@
 -- What a sheet that is kept gives to the formulas. Assumes nothing.
 use Prim.Native.Nat.{ℕ}
-use mathlib.Core.Path.{_≡_, ap, subst}
+use mathlib.Core.Path.{_≡_, refl, ap, subst}
+use native.Mathlib.Nat.{le-trans, lt-of-le-of-lt}
+use lib.Dec.{T, leb, leb→le, lit<}
 use lib.IntN.{ℤ}
 use lib.Signed.{ltZ-yes}
+use mir.Syntax.{w64}
+use mir.Val.{toZ, ofZ}
+use mir.Facts.{toZ-ofZ}
+use Rattle.arith.proofs.Order.{sfits-abs}
 use Rattle.sheet.specs.declared.Sheet.{Sheet}
 use Rattle.sheet.specs.Firing.{Firing}
 use Rattle.sheet.specs.Shown.{firing}
 use Rattle.lines.specs.Limits.{Limits}
-use Rattle.formulas.specs.Rounding.{Rounding}
-use Rattle.heat.specs.Balance.{Kept, Heat}
+use Rattle.formulas.specs.Figures.{Is, Within, Figure}
+use Rattle.formulas.specs.Items.{Quantity}
+use Rattle.heat.specs.Balance.{Kept, Heat, greatest}
 use Rattle.formulas.proofs.Units.{only}
 
 -- its firing is written out field by field, so that the limits are those of the struct's own fields
@@ -19,6 +26,13 @@ own k = subst Limits (k .shows .lines) (k .limits)
 pub field : {A : Type 0} {x : Sheet} {f : Firing} → Kept x f → (g : Firing → A) → g f ≡ g (firing x (f .walls))
 field k g = ap g (k .shows .lines)
 
+-- in the bits of an i64, as one of all heats: a sum, and a heat
+pub summed : {k : ℕ} {m n x y : ℤ} → m ≡ n → x ≡ y → Is k n y → Within greatest n → Figure k greatest (toZ w64 (ofZ w64 m)) x
+summed e d p w = rw (e, d, toZ-ofZ (sfits-abs (lt-of-le-of-lt (w .size) (lit< tt)))) (record { is = p; size = w })
+
+pub laid : {k B : ℕ} {n x : ℤ} → Figure k B n x → T (leb B greatest) → Figure k greatest (toZ w64 (ofZ w64 n)) x
+laid {B = B} p t = summed refl refl (p .is) (record { size = le-trans (p .size .size) (leb→le B greatest t) })
+
 -- no second number of joules is a heat of the firing
-pub one-answer : (q : Firing → Rounding → ℤ) (f : Firing) {a b : ℕ} {m n : ℤ} → Heat q f a m → Heat q f b n → m ≡ n
+pub one-answer : (q : Quantity) (f : Firing) {a b : ℕ} {m n : ℤ} → Heat q f a m → Heat q f b n → m ≡ n
 one-answer q f m n = only (ltZ-yes tt) (m .is) (n .is)

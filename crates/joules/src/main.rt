@@ -1,13 +1,10 @@
 // Reads a sheet on standard input and prints its heats in joules, or `refused=NUMBER,LINE`.
-use heat::Heats;
 use libc::STDIN_FILENO;
 use libc::STDOUT_FILENO;
-use quantity::heat::Joules;
 use reader::Outcome;
 
 // A heat under its name.
-fn show(name: &[u8], heat: Joules) {
-    let z = heat.0;
+fn show(name: &[u8], z: i64) {
     io::write_all(STDOUT_FILENO, name);
     if z < 0 {
         io::write_all(STDOUT_FILENO, b"-");
@@ -16,28 +13,25 @@ fn show(name: &[u8], heat: Joules) {
     io::write_all(STDOUT_FILENO, b"\n");
 }
 
-// Every heat, in the standard's order.
-fn show_heats(h: Heats) {
-    let income = h.income;
-    let solids = h.solids;
-    let gases = h.gases;
-    show(b"q1=", income.q1);
-    show(b"q2=", income.q2);
-    show(b"q3=", income.q3);
-    show(b"q5=", income.q5);
-    show(b"q8=", income.q8);
-    show(b"in=", income.total);
-    show(b"x1=", solids.x1);
-    show(b"x2=", solids.x2);
-    show(b"x3=", solids.x3);
-    show(b"x5=", solids.x5);
-    show(b"x7=", gases.x7);
-    show(b"x8=", gases.x8);
-    show(b"x9=", gases.x9);
-    show(b"x10=", solids.x10);
-    show(b"x11=", h.x11);
-    show(b"useful=", h.useful);
-    show(b"withset=", h.withset);
+// Every heat, in the report's order.
+fn show_heats(h: [i64; 17]) {
+    show(b"q1=", h[0]);
+    show(b"q2=", h[1]);
+    show(b"q3=", h[2]);
+    show(b"q5=", h[3]);
+    show(b"q8=", h[4]);
+    show(b"in=", h[5]);
+    show(b"x1=", h[6]);
+    show(b"x2=", h[7]);
+    show(b"x3=", h[8]);
+    show(b"x5=", h[9]);
+    show(b"x7=", h[10]);
+    show(b"x8=", h[11]);
+    show(b"x9=", h[12]);
+    show(b"x10=", h[13]);
+    show(b"x11=", h[14]);
+    show(b"useful=", h[15]);
+    show(b"withset=", h[16]);
 }
 
 // Why a sheet is refused, and in which line.

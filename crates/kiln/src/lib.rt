@@ -20,7 +20,9 @@ fn answered(sheet: &[u8], room: &mut [u8]) -> Answer
     let p = l.place;
     if p.kind == 0 {
         let firing = l.sheet;
-        return reported(report::figures(firing), room);
+        let head = firing.head;
+        let heats = heat::balance(firing);
+        return reported(report::figures(head.firing, head.product, heats), room);
     }
     let why = entries::coded::refusal_of(p.kind, p.field);
     refused(why, p.line)

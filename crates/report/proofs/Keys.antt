@@ -11,6 +11,7 @@ use lib.Dec.{T, eqb, leb, leb→le, eqb→eq}
 use Rattle.text.specs.Bytes.{bytes}
 use Rattle.arith.proofs.Ring.{both-left, both-right}
 use Rattle.lines.specs.Document01.{sameKey}
+use Rattle.formulas.specs.Items.{shuttle, heats}
 use Rattle.formulas.specs.Report.{lines, keys}
 
 -- as the code has them
@@ -28,15 +29,15 @@ cut i = take (start (i + 1) - start i) (drop (start i) letters)
 
 -- what is asked of the table at i
 right : ℕ → Bool
-unfolding keys lines
-right i = leb (start i) (start (i + 1)) && (leb (start (i + 1)) 59 && (leb (start (i + 1) - start i) 7 && sameKey (cut i) (getD keys i [])))
+unfolding keys lines heats
+right i = leb (start i) (start (i + 1)) && (leb (start (i + 1)) 59 && (leb (start (i + 1) - start i) 7 && sameKey (cut i) (getD (keys shuttle) i [])))
 
 each : ℕ → Bool
 each zero = true
 each (suc n) = right n && each n
 
 all-right : T (each 20)
-unfolding right each keys lines
+unfolding right each keys lines heats
 all-right = tt
 
 each-at : (n : ℕ) → T (each n) → (i : ℕ) → i < n → T (right i)
@@ -54,8 +55,8 @@ pub record Key (i : ℕ) : Type 0 where
   pub order : start i ≤ start (i + 1)
   pub within : start (i + 1) ≤ 59
   pub short : start (i + 1) - start i ≤ 7
-  pub key : cut i ≡ getD keys i []
-  pub size : length (getD keys i []) ≡ start (i + 1) - start i
+  pub key : cut i ≡ getD (keys shuttle) i []
+  pub size : length (getD (keys shuttle) i []) ≡ start (i + 1) - start i
 
 pub key-at : (i : ℕ) → i < 20 → Key i
 unfolding right
@@ -63,12 +64,12 @@ key-at i h =
     let a = leb (start i) (start (i + 1)) in
     let b = leb (start (i + 1)) 59 in
     let c = leb (start (i + 1) - start i) 7 in
-    let d = sameKey (cut i) (getD keys i []) in
+    let d = sameKey (cut i) (getD (keys shuttle) i []) in
     let r = each-at 20 all-right i h in
     let s = both-right a (b && (c && d)) r in
     let t = both-right b (c && d) s in
     let within = leb→le (start (i + 1)) 59 (both-left b (c && d) s) in
-    let key = same-is (cut i) (getD keys i []) (both-right c d t) in
+    let key = same-is (cut i) (getD (keys shuttle) i []) (both-right c d t) in
     record {
       order = leb→le (start i) (start (i + 1)) (both-left a (b && (c && d)) r);
       within = within;

@@ -8,6 +8,7 @@ use lib.ListN.{length, getD, take, drop, length-append}
 use lib.Seq.{take-all}
 use lib.IntN.{ℤ}
 use Rattle.text.specs.Decimal.{line}
+use Rattle.formulas.specs.Items.{shuttle, heats}
 use Rattle.formulas.specs.Report.{lines, keys, linesText}
 
 more : (i : ℕ) (ks : List (List ℕ)) (zs : List ℤ) (z : ℤ) → i < length ks → i < length zs →
@@ -32,23 +33,23 @@ split (suc i) (k ∷ ks) (y ∷ zs) = rw (split i ks zs, append-assoc)
 
 -- the first i lines
 unfoldable pub firstLines : ℕ → List ℤ → List ℕ
-firstLines i zs = linesText (take i keys) (take i zs)
+firstLines i zs = linesText (take i (keys shuttle)) (take i zs)
 
 pub no-lines : (zs : List ℤ) → firstLines 0 zs ≡ []
 unfolding firstLines linesText
 no-lines zs = refl
 
-pub all-lines : (zs : List ℤ) → length zs ≡ 20 → firstLines 20 zs ≡ linesText keys zs
-unfolding firstLines keys lines
+pub all-lines : (zs : List ℤ) → length zs ≡ 20 → firstLines 20 zs ≡ linesText (keys shuttle) zs
+unfolding firstLines keys lines heats
 all-lines zs e = rw (take-all 20 zs (omega arith))
 
-pub one-more : (i : ℕ) (zs : List ℤ) (z : ℤ) → length zs ≡ 20 → i < 20 → firstLines (i + 1) zs ≡ firstLines i zs ++ line (getD keys i []) (getD zs i z)
-unfolding firstLines keys lines
-one-more i zs z e h = rw add-one (more i keys zs z h (omega arith))
+pub one-more : (i : ℕ) (zs : List ℤ) (z : ℤ) → length zs ≡ 20 → i < 20 → firstLines (i + 1) zs ≡ firstLines i zs ++ line (getD (keys shuttle) i []) (getD zs i z)
+unfolding firstLines keys lines heats
+one-more i zs z e h = rw add-one (more i (keys shuttle) zs z h (omega arith))
 
-pub longer : (i : ℕ) (zs : List ℤ) (z : ℤ) → length zs ≡ 20 → i < 20 → length (firstLines (i + 1) zs) ≡ length (firstLines i zs) + length (line (getD keys i []) (getD zs i z))
-longer i zs z e h = ap length (one-more i zs z e h) ∙ length-append (firstLines i zs) (line (getD keys i []) (getD zs i z))
+pub longer : (i : ℕ) (zs : List ℤ) (z : ℤ) → length zs ≡ 20 → i < 20 → length (firstLines (i + 1) zs) ≡ length (firstLines i zs) + length (line (getD (keys shuttle) i []) (getD zs i z))
+longer i zs z e h = ap length (one-more i zs z e h) ∙ length-append (firstLines i zs) (line (getD (keys shuttle) i []) (getD zs i z))
 
-pub not-longer : (i : ℕ) (zs : List ℤ) → length (firstLines i zs) ≤ length (linesText keys zs)
+pub not-longer : (i : ℕ) (zs : List ℤ) → length (firstLines i zs) ≤ length (linesText (keys shuttle) zs)
 unfolding firstLines
-not-longer i zs = omega (arith, ap length (split i keys zs) ∙ length-append (linesText (take i keys) (take i zs)) (linesText (drop i keys) (drop i zs)))
+not-longer i zs = omega (arith, ap length (split i (keys shuttle) zs) ∙ length-append (linesText (take i (keys shuttle)) (take i zs)) (linesText (drop i (keys shuttle)) (drop i zs)))

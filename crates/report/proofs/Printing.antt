@@ -1,40 +1,35 @@
 -- A figure found from whole joules is the one that the definitions print. Assumes nothing.
-use Prim.Native.Nat.{ℕ, _*_}
-use mathlib.Core.Path.{_≡_, sym, ap, ap₂, _∙_}
-use mathlib.Core.List.{List, [], _∷_}
-use native.Mathlib.Nat.{mul-comm}
-use lib.Dec.{T, leb, lit<}
+use Prim.Native.Nat.{ℕ, zero, suc, _+_, _*_, _<_}
+use mathlib.Core.Path.{_≡_, refl, sym, ap, _∙_}
+use mathlib.Core.List.{List, [], _∷_, _++_, map}
+use native.Mathlib.Nat.{mul-comm, lt-of-le-of-lt, le-of-suc-le-suc, not-suc-le-zero}
+use native.Mathlib.Numerals.{add-one}
+use lib.Dec.{lit<}
 use lib.IntN.{ℤ, pos, natAbs, _*ℤ_}
+use lib.ListN.{length, getD}
 use lib.Signed.{_<ℤ_, ltZ-yes}
-use mir.Syntax.{w32, w64}
-use mir.Val.{SFits, toZ, ofZ}
+use mir.Syntax.{w64}
+use mir.Val.{toZ, ofZ}
 use mir.Facts.{toZ-ofZ}
 use Rattle.arith.specs.Nearest.{nearest}
 use Rattle.arith.proofs.Int.{one-*ℤ}
 use Rattle.arith.proofs.Ring.{v, #, _⊗_, ring}
 use Rattle.arith.proofs.Lin.{leq, prd, under}
-use Rattle.arith.proofs.Order.{abs-mul}
+use Rattle.arith.proofs.Order.{abs-mul, sfits-abs}
 use Rattle.arith.proofs.NearestLaws.{nearest-scaled, nearest-exact}
-use Rattle.arith.proofs.Span.{far}
-use Rattle.arith.proofs.Machine.{raw, num, _⟨*⟩_, span}
-use Rattle.quantity.proofs.Casts.{widened}
+use Rattle.arith.proofs.Machine.{raw, num, _⟨*⟩_}
 use Rattle.sheet.specs.Firing.{Firing}
 use Rattle.lines.specs.Limits.{Limits}
-use Rattle.formulas.specs.Rounding.{Rounding, paper}
-use Rattle.formulas.specs.Formulas.{joule, totalGas, q1}
-use Rattle.formulas.specs.Report.{printed, heat, share, number as number′}
-use Rattle.heat.specs.declared.Heats.{Heats}
-use Rattle.formulas.specs.Figures.{Is, Figure}
-use Rattle.heat.specs.Balance.{Heat}
+use Rattle.formulas.specs.Rounding.{paper}
+use Rattle.formulas.specs.Formulas.{joule, totalGas, q1, useful, withset}
+use Rattle.formulas.specs.Items.{Quantity, Item, item, shuttle, heats}
+use Rattle.formulas.specs.Report.{Line, heat, share, itemLine, shares, lines, printed, figures}
+use Rattle.formulas.specs.Figures.{Is}
+use Rattle.heat.specs.Balance.{Heat, Laid, greatest}
 use Rattle.formulas.proofs.Units.{units, only}
 use Rattle.formulas.proofs.Sums.{sum-of}
 use Rattle.formulas.proofs.Sizes.{within, fit}
 use Rattle.report.specs.Figures.{Divides, Found}
-
--- the figures one by one
-infixr 5 _then_
-pub _then_ : {x y : ℤ} {l m : List ℤ} → x ≡ y → l ≡ m → _≡_ {A = List ℤ} (x ∷ l) (y ∷ m)
-_then_ e d = ap₂ (λ (z : ℤ) (n : List ℤ). z ∷ n) e d
 
 -- so many times a heat is so many times its joules
 expanded : {n x : ℤ} (k : ℕ) → Is joule n x → x *ℤ pos k ≡ pos joule *ℤ (n *ℤ pos k)
@@ -54,25 +49,73 @@ fuel-some {f} {n = n} h p =
 product-some : {f : Firing} → Limits f → pos 0 <ℤ f .product
 product-some {f} h = under (f .product ∷ []) 0 (leq 1 (# 1000) (v 0) ∷ []) (# 0) (v 0) tt (h .product .low)
 
-module _ {f : Firing} {number product : ℤ} {heats : Heats} (p : Found f number product heats) where
+-- ---- the heats in their places
+no-item : Item
+no-item = item "" q1
+
+laid-at : (f : Firing) (l : List Item) (ns : List ℤ) (i : ℕ) → Laid f l ns → i < length l →
+    Heat (getD l i no-item .heat) f greatest (getD ns i (pos 0))
+laid-at f [] ns i p h = absurd (not-suc-le-zero h)
+laid-at f (x ∷ l) [] i p h = absurd p
+laid-at f (x ∷ l) (n ∷ ns) zero p h = p .0
+laid-at f (x ∷ l) (n ∷ ns) (suc i) p h = laid-at f l ns i (p .1) (le-of-suc-le-suc h)
+
+-- and their lines
+line-at : (f : Firing) (l : List Item) (m : List Line) (i : ℕ) → i < length l →
+    printed f (heat (getD l i no-item .heat)) ≡ getD (map (λ x. printed f (x .figure)) (map itemLine l ++ m)) i (pos 0)
+line-at f [] m i h = absurd (not-suc-le-zero h)
+line-at f (x ∷ l) m zero h = refl
+line-at f (x ∷ l) m (suc i) h = line-at f l m i (le-of-suc-le-suc h)
+
+module _ {f : Firing} {number product : ℤ} {ns : List ℤ} (p : Found f number product ns) where
+  -- the joules in a place, as they are read
+  abbrev joules : ℕ → ℤ
+  joules i = toZ w64 (ofZ w64 (getD ns i (pos 0)))
+
+  read : (i : ℕ) → i < 17 → Heat (getD (heats shuttle) i no-item .heat) f greatest (joules i)
+  unfolding heats
+  read i h = let a = laid-at f (heats shuttle) ns i (p .balanced) h in rw (toZ-ofZ (sfits-abs (lt-of-le-of-lt (a .size .size) (lit< tt)))) a
+
+  fuel : Heat q1 f greatest (joules 0)
+  unfolding heats
+  fuel = read 0 (lit< tt)
+
   -- nothing overflows, and nothing is divided by zero
-  pub per-tonne-can : {B : ℕ} {n x : ℤ} (h : Figure joule B n x) → T (leb (far (span (raw 0 ⟨*⟩ num (pos 10)) (within (h .size) ∷ []))) 9223372036854775807) → Divides 10 n product
-  per-tonne-can h t = record { fits = fit (within (h .size) ∷ []) (raw 0 ⟨*⟩ num (pos 10)) t; some = rw (p .is-product) (product-some (p .limits)) }
+  pub per-tonne-can : (i : ℕ) → i < 17 → Divides 10 (joules i) product
+  per-tonne-can i h = record { fits = fit (within (read i h .size) ∷ []) (raw 0 ⟨*⟩ num (pos 10)) tt; some = rw (p .is-product) (product-some (p .limits)) }
 
-  pub of-fuel-can : {B : ℕ} {n x : ℤ} (h : Figure joule B n x) → T (leb (far (span (raw 0 ⟨*⟩ num (pos 10000)) (within (h .size) ∷ []))) 9223372036854775807) → Divides 10000 n (heats .income .q1 .0)
-  of-fuel-can h t = record { fits = fit (within (h .size) ∷ []) (raw 0 ⟨*⟩ num (pos 10000)) t; some = fuel-some (p .limits) (p .balanced .income .q1) }
+  pub of-fuel-can : (i : ℕ) → i < 17 → Divides 10000 (joules i) (joules 0)
+  of-fuel-can i h = record { fits = fit (within (read i h .size) ∷ []) (raw 0 ⟨*⟩ num (pos 10000)) tt; some = fuel-some (p .limits) fuel }
 
-  pub number-is : SFits w32 number → toZ w64 (ofZ w64 (toZ w32 (ofZ w32 number))) ≡ printed f number′
+  -- the figures
+  pub number-is : number ≡ getD (figures f) 0 (pos 0)
+  unfolding figures lines printed
+  number-is = p .is-number ∙ sym (nearest-exact (f .number) (lit< tt)) ∙ ap (λ (z : ℤ). nearest z 1) (one-*ℤ (f .number))
+
+  pub per-tonne-is : (i : ℕ) → i < 17 → nearest (joules i *ℤ pos 10) (natAbs product) ≡ getD (figures f) (i + 1) (pos 0)
+  unfolding figures lines printed heats
+  per-tonne-is i h =
+      rw add-one
+      (ap (λ (z : ℤ). nearest (joules i *ℤ pos 10) (natAbs z)) (p .is-product)
+      ∙ over 10 (natAbs (f .product)) (read i h .is)
+      ∙ line-at f (heats shuttle) shares i h)
+
+  of-fuel-is : (q : Quantity) {n : ℤ} → Heat q f greatest n → nearest (n *ℤ pos 10000) (natAbs (joules 0)) ≡ printed f (share q)
   unfolding printed
-  number-is fits = widened fits ∙ p .is-number ∙ sym (nearest-exact (f .number) (lit< tt)) ∙ ap (λ (z : ℤ). nearest z 1) (one-*ℤ (f .number))
+  of-fuel-is q h =
+      let m = joules 0 in
+      let e : natAbs (q1 f paper) ≡ joule * natAbs m = ap natAbs (fuel .is .is) ∙ abs-mul m (pos joule) ∙ mul-comm (natAbs m) joule in
+      over 10000 (natAbs m) (h .is) ∙ ap (λ (d : ℕ). nearest (q f paper *ℤ pos 10000) d) (sym e)
 
-  pub per-tonne-is : (q : Firing → Rounding → ℤ) {B : ℕ} {n r : ℤ} → Heat q f B n → SFits w64 r → r ≡ nearest (n *ℤ pos 10) (natAbs product) → toZ w64 (ofZ w64 r) ≡ printed f (heat q)
-  unfolding printed
-  per-tonne-is q {n = n} h fits e = toZ-ofZ fits ∙ e ∙ ap (λ (z : ℤ). nearest (n *ℤ pos 10) (natAbs z)) (p .is-product) ∙ over 10 (natAbs (f .product)) (h .is)
+  pub eff1-is : nearest (joules 15 *ℤ pos 10000) (natAbs (joules 0)) ≡ getD (figures f) 18 (pos 0)
+  unfolding figures lines heats
+  eff1-is = of-fuel-is useful (read 15 (lit< tt))
 
-  pub of-fuel-is : (q : Firing → Rounding → ℤ) {B : ℕ} {n r : ℤ} → Heat q f B n → SFits w64 r → r ≡ nearest (n *ℤ pos 10000) (natAbs (heats .income .q1 .0)) → toZ w64 (ofZ w64 r) ≡ printed f (share q)
-  unfolding printed
-  of-fuel-is q {n = n} h fits e =
-      let m = heats .income .q1 .0 in
-      let fuel : natAbs (q1 f paper) ≡ joule * natAbs m = ap natAbs (p .balanced .income .q1 .is .is) ∙ abs-mul m (pos joule) ∙ mul-comm (natAbs m) joule in
-      toZ-ofZ fits ∙ e ∙ over 10000 (natAbs m) (h .is) ∙ ap (λ (d : ℕ). nearest (q f paper *ℤ pos 10000) d) (sym fuel)
+  pub eff2-is : nearest (joules 16 *ℤ pos 10000) (natAbs (joules 0)) ≡ getD (figures f) 19 (pos 0)
+  unfolding figures lines heats
+  eff2-is = of-fuel-is withset (read 16 (lit< tt))
+
+-- twenty
+pub figures-long : (f : Firing) → length (figures f) ≡ 20
+unfolding figures lines heats
+figures-long f = refl

@@ -13,6 +13,7 @@ use denote.Signed.{SInt}
 use Rattle.text.specs.Decimal.{line, decimal}
 use Rattle.text.proofs.Decimal.{length-line, i64-width}
 use Rattle.lines.specs.Rules.{Every}
+use Rattle.formulas.specs.Items.{shuttle, heats}
 use Rattle.formulas.specs.Report.{lines, keys, linesText}
 
 -- what an array of numbers tells of each of them
@@ -27,11 +28,11 @@ at-most [] zs p f = omega arith
 at-most (k ∷ ks) [] p f = omega arith
 at-most (k ∷ ks) (z ∷ zs) p f = omega (arith, length-append (line k z) (linesText ks zs), length-line k z, i64-width z (f .0), at-most ks zs (p .1) (f .1), p .0)
 
-keys-short : Every (λ k. length k ≤ 8) keys
-unfolding keys lines
+keys-short : Every (λ k. length k ≤ 8) (keys shuttle)
+unfolding keys lines heats
 keys-short = search needs
 
 -- THE GREATEST REPORT
-pub in-room : (zs : List ℤ) (us : List Val) → shadow (each ℤ (SInt w64 .own) zs us) → length (linesText keys zs) ≤ 600
-unfolding keys lines
-in-room zs us p = at-most keys zs keys-short (each-fits zs us p)
+pub in-room : (zs : List ℤ) (us : List Val) → shadow (each ℤ (SInt w64 .own) zs us) → length (linesText (keys shuttle) zs) ≤ 600
+unfolding keys lines heats
+in-room zs us p = at-most (keys shuttle) zs keys-short (each-fits zs us p)

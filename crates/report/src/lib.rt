@@ -3,7 +3,5 @@ mod joules;
 mod writing;
 
 pub use joules::figures;
-pub use joules::of_fuel;
-pub use joules::per_tonne;
 pub use writing::fits;
 pub use writing::write;

@@ -6,6 +6,7 @@ ghost use lib.Dec.{leb};
 ghost use lib.ListN.{length, getD};
 ghost use Rattle.text.specs.Decimal.{line};
 ghost use Rattle.pen.specs.Writing.{Written};
+ghost use Rattle.formulas.specs.Items.{shuttle};
 ghost use Rattle.formulas.specs.Report.{keys, linesText};
 
 // The keys, one after the other, and where each begins.
@@ -38,7 +39,7 @@ const STARTS: [usize; 21] = [
 // How long one line is, by its number.
 fn line_length(i: usize, figure: i64) -> usize
     requires { ⌜ i < 20 ⌝ }
-    ensures { λ r. ⌜ r ≡ length (line (getD keys i []) figure) ⌝ }
+    ensures { λ r. ⌜ r ≡ length (line (getD (keys shuttle) i []) figure) ⌝ }
     ensures { λ r. ⌜ r ≤ 30 ⌝ }
 {
     let key = STARTS[i + 1] - STARTS[i];
@@ -47,7 +48,7 @@ fn line_length(i: usize, figure: i64) -> usize
 
 // How long the report is; no report is longer than 600 bytes.
 fn length(figures: [i64; 20]) -> usize
-    ensures { λ r. ⌜ r ≡ length (linesText keys figures) ⌝ }
+    ensures { λ r. ⌜ r ≡ length (linesText (keys shuttle) figures) ⌝ }
     ensures { λ r. ⌜ r ≤ 600 ⌝ }
 {
     let mut n = 0;
@@ -61,8 +62,8 @@ fn length(figures: [i64; 20]) -> usize
 
 // Whether the report has room, which need not be measured where any report has.
 pub fn fits(figures: [i64; 20], room: usize) -> bool
-    ensures { λ r. ⌜ r ≡ leb (length (linesText keys figures)) room ⌝ }
-    ensures { λ _. ⌜ length (linesText keys figures) ≤ 600 ⌝ }
+    ensures { λ r. ⌜ r ≡ leb (length (linesText (keys shuttle) figures)) room ⌝ }
+    ensures { λ _. ⌜ length (linesText (keys shuttle) figures) ≤ 600 ⌝ }
 {
     if 600 <= room {
         return true;
@@ -72,8 +73,8 @@ pub fn fits(figures: [i64; 20], room: usize) -> bool
 
 // Puts the report at the front, and answers how long it is.
 pub fn write(out: &mut [u8], figures: [i64; 20]) -> usize
-    requires { ⌜ length (linesText keys figures) ≤ length (now out) ⌝ }
-    ensures { λ r. ⌜ Written 0 (linesText keys figures) (now (out .entry)) (now (out .exit)) r ⌝ }
+    requires { ⌜ length (linesText (keys shuttle) figures) ≤ length (now out) ⌝ }
+    ensures { λ r. ⌜ Written 0 (linesText (keys shuttle) figures) (now (out .entry)) (now (out .exit)) r ⌝ }
 {
     let keys = KEYS;
     let starts = STARTS;

@@ -6,32 +6,26 @@ use lib.Dec.{lit<}
 use lib.IntN.{pos}
 use Rattle.arith.proofs.Machine.{Known, Mx, raw, num, _⟨+⟩_, _⟨-⟩_, _⟨*⟩_}
 use Rattle.sheet.specs.Firing.{Stage}
-use Rattle.fuel.specs.declared.mixture.Burning.{Burning}
-use Rattle.formulas.specs.Formulas.{dryFlue}
+use Rattle.formulas.specs.Formulas.{Burning, dryFlue}
 use Rattle.flue.specs.Steps.{BurnsIn}
 use Rattle.formulas.proofs.Units.{exactly, rounded}
 use Rattle.formulas.proofs.Sizes.{limits, within, most, fit}
 use Rattle.flue.proofs.dry_flue.Statement.{statement}
 use Rattle.flue.proofs.dry_flue.Tie as tie
 
-abbrev known : {m : Burning} {s : Stage} → BurnsIn m s → List Known
-known p = limits (p .stage .gas) ∷ limits (p .stage .excess) ∷ within (p .burnt .dry .size) ∷ within (p .burnt .air .size) ∷ []
+abbrev known : {b : Burning} {s : Stage} → BurnsIn b s → List Known
+known p = limits (p .stage .gas) ∷ limits (p .stage .excess) ∷ within (p .burning .dry) ∷ within (p .burning .air) ∷ []
 
 abbrev aired : Mx
 aired = (raw 1 ⟨-⟩ num (pos 210)) ⟨*⟩ raw 3
 
 abbrev each : Mx
-each = raw 2 ⟨*⟩ num (pos 100000) ⟨+⟩ aired
+each = raw 2 ⟨+⟩ aired
 
 dry-rate-requires : tie.Need-dry-rate-requires
 dry-rate-requires c κs =
     let ks = known (c .pre) in
-    record {
-      own = fit ks (raw 2 ⟨*⟩ num (pos 100000)) tt;
-      more = fit ks (raw 1 ⟨-⟩ num (pos 210)) tt;
-      aired = fit ks aired tt;
-      all = fit ks each tt;
-    }
+    record { more = fit ks (raw 1 ⟨-⟩ num (pos 210)) tt; aired = fit ks aired tt; all = fit ks each tt }
 
 dry-exact-requires : tie.Need-dry-exact-requires
 dry-exact-requires c κs = rw (c .dry-rate .ensures) (fit (known (c .before .pre)) (raw 0 ⟨*⟩ each) tt)
@@ -44,7 +38,7 @@ unfolding dryFlue
 returns c =
     let s = c .before .before .before in
     let size = most (known (s .pre)) (raw 0 ⟨*⟩ each) {B = 30440520000000000} tt in
-    λ g b. rw (← b .dry .is, ← b .air .is) (rounded 100000 1 (lit< tt) (lit< tt) (exactly refl) size (lit< tt) (rw (c .rounded .ensures, c .before .dry-exact .ensures, c .before .before .dry-rate .ensures)))
+    rounded 100000 1 (lit< tt) (lit< tt) (exactly refl) size (lit< tt) (rw (c .rounded .ensures, c .before .dry-exact .ensures, c .before .before .dry-rate .ensures))
 
 pub dry-flue-spec : {M : Type 1} → statement M
 dry-flue-spec = tie.close (tie.spec dry-rate-requires dry-exact-requires rounded-requires returns)

@@ -1,4 +1,4 @@
--- The loop's invariant: for the fuel that burns, what is summed so far, twice, is the sum over the first i stages. Assumes nothing.
+-- The loop's invariant: what is summed so far, twice, is the sum over the first i stages. Assumes nothing.
 use mathlib.Core.Path.{_≡_}
 use mathlib.Core.List.{List}
 use Prim.Native.Nat.{ℕ, _≤_, _<_, _-_, min}
@@ -6,12 +6,11 @@ use native.Mathlib.Omega.{arith}
 use borrow.Author.Needs.{needs}
 use lib.ListN.{length, getD}
 use Rattle.sheet.specs.declared.Stage.{Stage as Stageˢ}
-use Rattle.sheet.specs.Firing.{Gas}
 use Rattle.sheet.specs.Shown.{stage}
 use Rattle.lines.specs.Limits.{StageIn}
 use Rattle.formulas.specs.Rounding.{paper}
 use Rattle.formulas.specs.Formulas.{joule, sum, flueHeat, monoxideHeat, x7, x8}
-use Rattle.fuel.specs.Mixture.{Burnt}
+use Rattle.fuel.specs.Mixture.{burning as burningOf}
 use Rattle.formulas.proofs.Sums.{unmapped, blankStage, first, each, Running, none, more-fits, summed, blocked}
 use Rattle.flue.proofs.flue_heats.Statement.{statement}
 use Rattle.flue.proofs.flue_heats.Tie as tie
@@ -19,8 +18,8 @@ use Rattle.flue.proofs.flue_heats.Tie as tie
 abbrev Inv-loop : tie.InvT-loop
 Inv-loop burning moisture t lines count x7₀ x8₀ i₀ x7 x8 i =
     (i ≤ count)
-    × ((g : Gas) → Burnt g burning → Running joule 5800013659199 i (x7 .0) (first (flueHeat paper g (moisture .0) (t .0)) stage lines i))
-    × ((g : Gas) → Burnt g burning → Running joule 3881166300000 i (x8 .0) (first (monoxideHeat paper g) stage lines i))
+    × Running joule 5800013659199 i (x7 .0) (first (flueHeat paper (burningOf burning) (moisture .0) (t .0)) stage lines i)
+    × Running joule 3881166300000 i (x8 .0) (first (monoxideHeat paper (burningOf burning)) stage lines i)
 
 abbrev μ-loop : tie.MeasureT-loop
 μ-loop burning moisture t lines count x7₀ x8₀ i₀ x7 x8 i = count - i
@@ -39,7 +38,7 @@ held-requires c κs = search needs
 
 loop-holds : tie.Need-loop-holds Inv-loop μ-loop
 unfolding sum
-loop-holds c = (omega arith, λ g b. none, λ g b. none)
+loop-holds c = (omega arith, none, none)
 
 mul-stage-heats : tie.Need-mul-stage-heats Inv-loop μ-loop
 mul-stage-heats c = omega arith
@@ -54,8 +53,8 @@ loop-again c =
     let s = l .before .before .before in
     let inside : l .loop .i < length (lines s) = omega (arith, long s) in (
       omega arith,
-      λ g b. rw (c .before .plus .ensures) (summed (flueHeat paper g (s .args .moisture .0) (s .args .t .0)) stage (lines s) blankStage inside (l .loop .inv .1 g b) (h .stage-heats .ensures .0 g b)),
-      λ g b. rw (c .plus2 .ensures) (summed (monoxideHeat paper g) stage (lines s) blankStage inside (l .loop .inv .2 g b) (h .stage-heats .ensures .1 g b)),
+      rw (c .before .plus .ensures) (summed (flueHeat paper (burningOf (s .args .burning)) (s .args .moisture .0) (s .args .t .0)) stage (lines s) blankStage inside (l .loop .inv .1) (h .stage-heats .ensures .0)),
+      rw (c .plus2 .ensures) (summed (monoxideHeat paper (burningOf (s .args .burning))) stage (lines s) blankStage inside (l .loop .inv .2) (h .stage-heats .ensures .1)),
     )
 
 stage-heats-requires : tie.Need-stage-heats-requires Inv-loop μ-loop
@@ -63,17 +62,15 @@ stage-heats-requires c κs =
     let s = c .before .before .before .before .before in
     let p = s .pre in
     let h = kept s (c .before .before .loop .i) (omega arith) (omega arith) in
-    record { moist = record { burns = record { gas = p .gas; burnt = p .burnt; stage = h }; moisture = p .moisture }; ambient = p .ambient }
+    record { moist = record { burns = record { burning = p .burning; stage = h }; moisture = p .moisture }; ambient = p .ambient }
 
 plus-requires : tie.Need-plus-requires Inv-loop μ-loop
 plus-requires c κs =
-    let p = c .before .before .before .before .before .before .pre in
-    more-fits (c .before .before .before .loop .inv .1 (p .gas) (p .burnt)) (c .stage-heats .ensures .0 (p .gas) (p .burnt)) 12 (omega arith) tt
+    more-fits (c .before .before .before .loop .inv .1) (c .stage-heats .ensures .0) 12 (omega arith) tt
 
 plus-requires-2 : tie.Need-plus-requires-2 Inv-loop μ-loop
 plus-requires-2 c κs =
-    let p = c .before .before .before .before .before .before .before .pre in
-    more-fits (c .before .before .before .before .loop .inv .2 (p .gas) (p .burnt)) (c .before .stage-heats .ensures .1 (p .gas) (p .burnt)) 12 (omega arith) tt
+    more-fits (c .before .before .before .before .loop .inv .2) (c .before .stage-heats .ensures .1) 12 (omega arith) tt
 
 add-i : tie.Need-add-i Inv-loop μ-loop
 add-i c = search needs
@@ -88,8 +85,8 @@ returns c =
     let l = c .before .loop in
     let n = s .args .stages .count .0 in
     let e : l .i ≡ min n 12 = omega arith in (
-      λ f b e₁ e₂ e₃. rw (e₁, e₂, e₃) (blocked (flueHeat paper (f .gas) (s .args .moisture .0) (s .args .t .0)) stage (lines s) n 12 (long s) e (l .inv .1 (f .gas) b)),
-      λ f b e₁. rw e₁ (blocked (monoxideHeat paper (f .gas)) stage (lines s) n 12 (long s) e (l .inv .2 (f .gas) b)),
+      λ f e₀ e₁ e₂ e₃. rw (e₀, e₁, e₂, e₃) (blocked (flueHeat paper (burningOf (s .args .burning)) (s .args .moisture .0) (s .args .t .0)) stage (lines s) n 12 (long s) e (l .inv .1)),
+      λ f e₀ e₁. rw (e₀, e₁) (blocked (monoxideHeat paper (burningOf (s .args .burning))) stage (lines s) n 12 (long s) e (l .inv .2)),
     )
 
 pub flue-heats-spec : {M : Type 1} → statement M

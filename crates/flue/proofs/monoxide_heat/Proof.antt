@@ -17,7 +17,7 @@ returns c =
     let s = c .before .before in
     let p = s .pre in
     let size = most (within (p .volume) ∷ limits (p .stage .co) ∷ []) (raw 0 ⟨*⟩ raw 1 ⟨*⟩ num (pos 12750)) {B = 3881166300000000000} tt in
-    λ g v. rounded 1000000 (joule / 10 ^ 6) (lit< tt) (lit< tt) (finer (times (times (v .is) (s .args .stage .co .0)) (pos 12750)) (joule / 10 ^ 11)) size (lit< tt) (rw (c .joules .ensures, c .before .unburnt .ensures))
+    λ b v. rounded 1000000 (joule / 10 ^ 6) (lit< tt) (lit< tt) (finer (times (times (v .is) (s .args .stage .co .0)) (pos 12750)) (joule / 10 ^ 11)) size (lit< tt) (rw (c .joules .ensures, c .before .unburnt .ensures))
 
 unburnt-requires : tie.Need-unburnt-requires
 unburnt-requires c κs =

@@ -21,15 +21,12 @@ mul-t8 c = search casts
 mul-t9 : tie.Need-mul-t9
 mul-t9 c = search casts
 
-mul-t10 : tie.Need-mul-t10
-mul-t10 c = search casts
-
-add-t11 : tie.Need-add-t11
-add-t11 c = search casts
+add-t10 : tie.Need-add-t10
+add-t10 c = search casts
 
 returns : tie.Need-returns
 returns c = search casts
 
 pub rate-exact-spec : {M : Type 1} → statement M
 rate-exact-spec =
-    tie.close (tie.spec cast-t4 mul-t5 mul-t6 cast-t7 mul-t8 mul-t9 mul-t10 add-t11 returns)
+    tie.close (tie.spec cast-t4 mul-t5 mul-t6 cast-t7 mul-t8 mul-t9 add-t10 returns)

@@ -1,6 +1,7 @@
 -- The sum of two heats, and a third from the same volume. Assumes nothing.
 use mathlib.Core.List.{[], _∷_}
 use borrow.Author.Needs.{needs}
+use lib.Dec.{lit≤}
 use Rattle.arith.proofs.Machine.{raw, _⟨+⟩_}
 use Rattle.sheet.specs.Shown.{stage}
 use Rattle.formulas.specs.Formulas.{flueHeat}
@@ -16,10 +17,10 @@ dry-flue-requires c κs = search needs
 filled : (c : tie.After-dry-flue) → FilledIn (c .dry-flue .result .0) (stage (c .before .args .stage))
 filled c =
     let p = c .before .pre .moist .burns in
-    record { volume = c .dry-flue .ensures (p .gas) (p .burnt) .size; stage = p .stage }
+    record { volume = c .dry-flue .ensures .size; stage = p .stage }
 
 dry-heat-requires : tie.Need-dry-heat-requires
-dry-heat-requires c κs = record { filled = filled c; ambient = c .before .pre .ambient }
+dry-heat-requires c κs = record { filled = filled c; capacity = record { size = lit≤ tt }; ambient = c .before .pre .ambient }
 
 vapour-heat-requires : tie.Need-vapour-heat-requires
 vapour-heat-requires c κs = search needs
@@ -27,9 +28,8 @@ vapour-heat-requires c κs = search needs
 plus-requires : tie.Need-plus-requires
 plus-requires c κs =
     let v = c .before .before in
-    let p = v .before .pre .moist .burns in
-    let dry = c .before .dry-heat .ensures (p .gas) (v .dry-flue .ensures (p .gas) (p .burnt)) in
-    fit (within (dry .size) ∷ within (c .vapour-heat .ensures (p .gas) (p .burnt) .size) ∷ []) (raw 0 ⟨+⟩ raw 1) tt
+    let dry = c .before .dry-heat .ensures _ (v .dry-flue .ensures) in
+    fit (within (dry .size) ∷ within (c .vapour-heat .ensures .size) ∷ []) (raw 0 ⟨+⟩ raw 1) tt
 
 monoxide-heat-requires : tie.Need-monoxide-heat-requires
 monoxide-heat-requires c κs = filled (c .before .before .before)
@@ -40,9 +40,9 @@ returns c =
     let d = c .before .before .before in
     let v = d .before .dry-flue .ensures in
     let vapour = c .before .before .vapour-heat .ensures in (
-      λ g b. let dry = d .dry-heat .ensures g (v g b) in rw (c .before .plus .ensures)
-          (record { is = plus (dry .is) (vapour g b .is); size = most (within (dry .size) ∷ within (vapour g b .size) ∷ []) (raw 0 ⟨+⟩ raw 1) tt }),
-      λ g b. c .monoxide-heat .ensures g (v g b),
+      let dry = d .dry-heat .ensures _ v in rw (c .before .plus .ensures)
+          (record { is = plus (dry .is) (vapour .is); size = most (within (dry .size) ∷ within (vapour .size) ∷ []) (raw 0 ⟨+⟩ raw 1) tt }),
+      c .monoxide-heat .ensures _ v,
     )
 
 pub stage-heats-spec : {M : Type 1} → statement M

@@ -16,7 +16,7 @@ vapour-rate-requires c κs = search needs
 vapour-exact-requires : tie.Need-vapour-exact-requires
 vapour-exact-requires c κs =
     let p = c .before .pre .burns in
-    fit (within (c .vapour-rate .ensures (p .gas) (p .burnt) .size) ∷ limits (p .stage .gas) ∷ []) (raw 0 ⟨*⟩ raw 1) tt
+    fit (within (c .vapour-rate .ensures .size) ∷ limits (p .stage .gas) ∷ []) (raw 0 ⟨*⟩ raw 1) tt
 
 rounded-requires : tie.Need-rounded-requires
 rounded-requires c κs = search needs
@@ -26,9 +26,8 @@ unfolding vapour
 returns c =
     let s = c .before .before .before in
     let rate = c .before .before .vapour-rate .ensures in
-    λ g b.
-    let size = most (within (rate g b .size) ∷ limits (s .pre .burns .stage .gas) ∷ []) (raw 0 ⟨*⟩ raw 1) {B = 2803842428600000} tt in
-    rounded 10000 (56 * 10 ^ 7) (lit< tt) (lit< tt) (times (rate g b .is) (s .args .stage .gas .0)) size (lit< tt) (rw (c .rounded .ensures, c .before .vapour-exact .ensures))
+    let size = most (within (rate .size) ∷ limits (s .pre .burns .stage .gas) ∷ []) (raw 0 ⟨*⟩ raw 1) {B = 2803842428600000} tt in
+    rounded 10000 (56 * 10 ^ 7) (lit< tt) (lit< tt) (times (rate .is) (s .args .stage .gas .0)) size (lit< tt) (rw (c .rounded .ensures, c .before .vapour-exact .ensures))
 
 pub vapour-spec : {M : Type 1} → statement M
 vapour-spec = tie.close (tie.spec vapour-rate-requires vapour-exact-requires rounded-requires returns)

@@ -25,7 +25,7 @@ vapour-requires c κs = search needs
 vapour-carried-requires : tie.Need-vapour-carried-requires
 vapour-carried-requires c κs =
     let p = c .before .before .before .pre in
-    let ks = within (c .vapour .ensures (p .moist .burns .gas) (p .moist .burns .burnt) .size) ∷ limits (p .moist .burns .stage .flue) ∷ limits (p .ambient) ∷ [] in
+    let ks = within (c .vapour .ensures .size) ∷ limits (p .moist .burns .stage .flue) ∷ limits (p .ambient) ∷ [] in
     rw (c .before .above .ensures, c .before .before .degrees .ensures)
     (record { one = fit ks (raw 0 ⟨*⟩ num (pos 193)) tt; all = fit ks (raw 0 ⟨*⟩ num (pos 193) ⟨*⟩ (raw 1 ⟨-⟩ raw 2)) tt })
 
@@ -38,9 +38,8 @@ returns c =
     let s = c .before .before .before .before .before in
     let mass = c .before .before .vapour .ensures in
     let rise = s .args .stage .flue .0 -ℤ s .args .t .0 in
-    λ g b.
-    let size = most (within (mass g b .size) ∷ limits (s .pre .moist .burns .stage .flue) ∷ limits (s .pre .ambient) ∷ []) (raw 0 ⟨*⟩ num (pos 193) ⟨*⟩ (raw 1 ⟨-⟩ raw 2)) {B = 660192738238156000} tt in
-    rounded 1000000 (joule / 10 ^ 6) (lit< tt) (lit< tt) (finer (times (times (mass g b .is) (pos 193)) rise) (joule / (56 * 10 ^ 17))) size (lit< tt) (rw (c .joules .ensures, c .before .vapour-carried .ensures, c .before .before .before .above .ensures, c .before .before .before .before .degrees .ensures))
+    let size = most (within (mass .size) ∷ limits (s .pre .moist .burns .stage .flue) ∷ limits (s .pre .ambient) ∷ []) (raw 0 ⟨*⟩ num (pos 193) ⟨*⟩ (raw 1 ⟨-⟩ raw 2)) {B = 660192738238156000} tt in
+    rounded 1000000 (joule / 10 ^ 6) (lit< tt) (lit< tt) (finer (times (times (mass .is) (pos 193)) rise) (joule / (56 * 10 ^ 17))) size (lit< tt) (rw (c .joules .ensures, c .before .vapour-carried .ensures, c .before .before .before .above .ensures, c .before .before .before .before .degrees .ensures))
 
 pub vapour-heat-spec : {M : Type 1} → statement M
 vapour-heat-spec =

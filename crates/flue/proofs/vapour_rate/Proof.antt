@@ -6,22 +6,21 @@ use lib.Dec.{lit<}
 use lib.IntN.{ℤ, pos}
 use Rattle.arith.proofs.Machine.{Known, Mx, raw, num, _⟨+⟩_, _⟨*⟩_}
 use Rattle.sheet.specs.Firing.{Stage}
-use Rattle.fuel.specs.declared.mixture.Burning.{Burning}
-use Rattle.formulas.specs.Formulas.{vapourRate}
+use Rattle.formulas.specs.Formulas.{Burning, vapourRate}
 use Rattle.flue.specs.Steps.{MoistIn}
 use Rattle.formulas.proofs.Units.{exactly, rounded}
 use Rattle.formulas.proofs.Sizes.{limits, within, most, fit}
 use Rattle.flue.proofs.vapour_rate.Statement.{statement}
 use Rattle.flue.proofs.vapour_rate.Tie as tie
 
-abbrev known : {m : Burning} {X : ℤ} {s : Stage} → MoistIn m X s → List Known
-known p = limits (p .burns .stage .excess) ∷ within (p .burns .burnt .air .size) ∷ limits (p .moisture) ∷ within (p .burns .burnt .vapour .size) ∷ []
+abbrev known : {b : Burning} {X : ℤ} {s : Stage} → MoistIn b X s → List Known
+known p = limits (p .burns .stage .excess) ∷ within (p .burns .burning .air) ∷ limits (p .moisture) ∷ within (p .burns .burning .vapour) ∷ []
 
 abbrev moist : Mx
 moist = num (pos 1293) ⟨*⟩ raw 0 ⟨*⟩ raw 1 ⟨*⟩ raw 2
 
 abbrev all : Mx
-all = moist ⟨*⟩ num (pos 56) ⟨+⟩ raw 3 ⟨*⟩ num (pos 45000000000000)
+all = moist ⟨*⟩ num (pos 56) ⟨+⟩ raw 3
 
 rate-exact-requires : tie.Need-rate-exact-requires
 rate-exact-requires c κs =
@@ -31,7 +30,6 @@ rate-exact-requires c κs =
       aired = fit ks (num (pos 1293) ⟨*⟩ raw 0 ⟨*⟩ raw 1) tt;
       moist = fit ks moist tt;
       over = fit ks (moist ⟨*⟩ num (pos 56)) tt;
-      own = fit ks (raw 3 ⟨*⟩ num (pos 45000000000000)) tt;
       all = fit ks all tt;
     }
 
@@ -43,7 +41,7 @@ unfolding vapourRate
 returns c =
     let s = c .before .before in
     let size = most (known (s .pre)) all {B = 7850758800000000000} tt in
-    λ g b. rw (← b .air .is, ← b .vapour .is) (rounded 560000000 1 (lit< tt) (lit< tt) (exactly refl) size (lit< tt) (rw (c .rounded .ensures, c .before .rate-exact .ensures)))
+    rounded 560000000 1 (lit< tt) (lit< tt) (exactly refl) size (lit< tt) (rw (c .rounded .ensures, c .before .rate-exact .ensures))
 
 pub vapour-rate-spec : {M : Type 1} → statement M
 vapour-rate-spec = tie.close (tie.spec rate-exact-requires rounded-requires returns)

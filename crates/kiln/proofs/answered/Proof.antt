@@ -1,7 +1,7 @@
 -- An accepted sheet shows a firing that keeps the rules; a refused one has document 01's refusal. Assumes nothing.
 use borrow.Author.Needs.{needs}
 use Prim.Native.Nat.{ℕ}
-use mathlib.Core.Path.{_≡_, ap, _∙_}
+use mathlib.Core.Path.{_≡_, sym, ap, _∙_}
 use mathlib.Core.List.{List}
 use native.Mathlib.Omega.{arith}
 use lib.ListN.{length}
@@ -12,8 +12,11 @@ use Rattle.lines.specs.Reader.{Refused, readOf}
 use Rattle.lines.specs.Document01.{document01}
 use Rattle.lines.specs.Rows.{firingOf}
 use Rattle.lines.proofs.Numbering.{refuses}
+use Rattle.formulas.specs.Items.{shuttle}
 use Rattle.formulas.specs.Report.{keys, linesText, report}
 use Rattle.heat.specs.Balance.{Kept}
+use Rattle.heat.proofs.Kept.{field}
+use Rattle.report.specs.Figures.{Found}
 use Rattle.entries.specs.Place.{reason}
 use Rattle.entries.proofs.Places.{is-good, is-bad}
 use Rattle.reader.proofs.Answering.{Firm, firm-judged, firm-limits, refused-judged}
@@ -26,10 +29,10 @@ judged-requires : tie.Need-judged-requires
 judged-requires c κs = search needs
 
 -- what was accepted
-abbrev firing : (c : tie.After-firing) → Firm (c .before .before .before .before .before .before .before .args .sheet .now) (c .before .before .before .before .judged .result .sheet)
+abbrev firing : (c : tie.After-head) → Firm (c .before .before .before .before .before .before .before .before .args .sheet .now) (c .before .before .before .before .before .judged .result .sheet)
 firing c =
-    let j = c .before .before .before .before .judged in
-    firm-judged _ (j .result) (j .ensures) (is-good (j .result .place) (c .before .if1 .taken))
+    let j = c .before .before .before .before .before .judged in
+    firm-judged _ (j .result) (j .ensures) (is-good (j .result .place) (c .before .before .if1 .taken))
 
 -- what was refused
 abbrev refusal : (c : tie.Else1) → let r = c .before .before .before .judged .result in readOf document01 (c .before .before .before .before .before .before .args .sheet .now) ≡ Refused (reason (r .place)) (r .place .line)
@@ -40,8 +43,17 @@ refusal c =
 kept : {s : List ℕ} {x : Sheet} (a : Firm s x) → Kept x (firingOf (a .sheet))
 kept a = record { shows = a .shows; limits = firm-limits a }
 
+balance-requires : tie.Need-balance-requires
+balance-requires c κs = (firingOf (firing c .sheet), kept (firing c))
+
+-- its number, product and heats
+found : (c : tie.After-balance) → let x = c .before .before .before .before .before .before .judged .result .sheet in Found (firingOf (firing (c .before) .sheet)) (x .head .firing .0) (x .head .product .0) (c .balance .result)
+found c =
+    let k = kept (firing (c .before)) in
+    record { is-number = sym (field k (λ f. f .number)); is-product = sym (field k (λ f. f .product)); balanced = c .balance .ensures _ k; limits = k .limits }
+
 figures-requires : tie.Need-figures-requires
-figures-requires c κs = (firingOf (firing c .sheet), kept (firing c))
+figures-requires c κs = (firingOf (firing (c .before) .sheet), found c)
 
 reported-requires : tie.Need-reported-requires
 reported-requires c κs = search needs
@@ -54,9 +66,9 @@ unfolding report
 returns c =
     let w = c .before .before .reported .ensures in
     let d = c .before .before .before .before in
-    let s = d .before .before .before .before .before .before .before .before in
-    let a = firing (d .before) in
-    let text : linesText keys (d .figures .result) ≡ report (firingOf (a .sheet)) = ap (linesText keys) (d .figures .ensures (firingOf (a .sheet)) (kept a)) in (
+    let s = d .before .before .before .before .before .before .before .before .before .before in
+    let a = firing (d .before .before) in
+    let text : linesText (keys shuttle) (d .figures .result) ≡ report (firingOf (a .sheet)) = ap (linesText (keys shuttle)) (d .figures .ensures (firingOf (a .sheet)) (found (d .before))) in (
       w .0 ∙ ap (λ (t : List ℕ). fitted t (length (s .args .room .now))) text ∙ answer-good (s .args .sheet .now) (a .good) (length (s .args .room .now)),
       (w .1 .0 ∙ ap (λ (t : List ℕ). placed t (s .args .room .now)) text ∙ buffer-good (s .args .sheet .now) (a .good) (s .args .room .now), short-good (s .args .sheet .now) (a .good) (rw text at (w .1 .1))),
     )
@@ -76,6 +88,7 @@ answered-spec =
     tie.close
     (tie.spec
     judged-requires
+    balance-requires
     figures-requires
     reported-requires
     same-length

@@ -45,8 +45,8 @@ brighter-requires c κs =
     let h : l .i < 13 = omega arith in
     let sums = l .inv .1 in
     let air = column-fits (λ k. k .air) refl (s .args .t1) (l .i) h 3094 (s .pre) tt tt in
-    let dry = column-fits (λ k. k .dry) refl (s .args .t1) (l .i) h 4 (s .pre) tt tt in
-    let vapour = column-fits (λ k. k .vapour) refl (s .args .t1) (l .i) h 5 (s .pre) tt tt in
+    let dry = column-fits (λ k. k .dry) refl (s .args .t1) (l .i) h 400000 (s .pre) tt tt in
+    let vapour = column-fits (λ k. k .vapour) refl (s .args .t1) (l .i) h 225000000000000 (s .pre) tt tt in
     record {
       air = rw (sums .0) air;
       dry = rw (sums .1 .0) dry;
@@ -78,11 +78,11 @@ returns c =
     let air = sums .0 ∙ ap (so-far airs shares) end in
     let dry = sums .1 .0 ∙ ap (so-far dries shares) end in
     let vapour = sums .1 .1 ∙ ap (so-far vapours shares) end in
-    record {
-      air = record { is = air ∙ air-is (gas shares); size = rw air (weigh-size 3094 airs 13 (s .pre) tt) };
-      dry = record { is = dry ∙ dry-is (gas shares); size = rw dry (weigh-size 4 dries 13 (s .pre) tt) };
-      vapour = record { is = vapour ∙ vapour-is (gas shares); size = rw vapour (weigh-size 5 vapours 13 (s .pre) tt) };
-    }
+    rw (air, dry, vapour)
+    (record {
+      is = rw (air-is (gas shares), dry-is (gas shares), vapour-is (gas shares)) refl;
+      within = record { air = weigh-size 3094 airs 13 (s .pre) tt; dry = weigh-size 400000 dries 13 (s .pre) tt; vapour = weigh-size 225000000000000 vapours 13 (s .pre) tt };
+    })
 
 pub burning-of-spec : {M : Type 1} → statement M
 burning-of-spec =

@@ -1,28 +1,102 @@
--- The firing's number and product are the sheet's, and its heats are the balance's. Assumes nothing.
-use mathlib.Core.Path.{sym}
-use borrow.Author.Needs.{needs}
-use Rattle.sheet.specs.declared.Sheet.{Sheet}
+-- The number, then each heat in its place, then the two efficiencies. Assumes nothing.
+use Prim.Native.Nat.{ℕ, _+_, _-_, _≤_}
+use mathlib.Core.Path.{_≡_, refl, _∙_, subst}
+use mathlib.Core.List.{[], _∷_}
+use native.Mathlib.Omega.{arith}
+use borrow.Author.Needs.{needs, sfits-of, set-long}
+use lib.Dec.{lit<}
+use lib.ListN.{length, set, take}
+use lib.IntN.{ℤ, pos}
+use mir.Syntax.{w32, w64}
+use mir.Val.{SFits, toZ, ofZ}
+use mir.Facts.{toZ-ofZ}
+use Rattle.quantity.proofs.Casts.{widened, widens}
 use Rattle.sheet.specs.Firing.{Firing}
-use Rattle.heat.specs.declared.Heats.{Heats}
-use Rattle.heat.specs.Balance.{Kept, Balanced}
-use Rattle.heat.proofs.Kept.{field}
+use Rattle.formulas.specs.Report.{figures}
 use Rattle.report.specs.Figures.{Found}
+use Rattle.report.proofs.Filling.{filled, full}
+use Rattle.report.proofs.Printing.{per-tonne-can, of-fuel-can, number-is, per-tonne-is, eff1-is, eff2-is, figures-long}
 use Rattle.report.proofs.joules.figures.Statement.{statement}
 use Rattle.report.proofs.joules.figures.Tie as tie
 
-found : {x : Sheet} {f : Firing} {h : Heats} → Kept x f → Balanced f h → Found f (x .head .firing .0) (x .head .product .0) h
-found k b = record { is-number = sym (field k (λ f. f .number)); is-product = sym (field k (λ f. f .product)); balanced = b; limits = k .limits }
+abbrev Inv-loop : tie.InvT-loop
+Inv-loop product heats out₀ i₀ out i =
+    (i ≤ 17)
+    × (length heats ≡ 17)
+    × (length out ≡ 20)
+    × ((f : Firing) (n : ℤ) → Found f n (product .0) heats → take 1 out₀ ≡ take 1 (figures f) → take (i + 1) out ≡ take (i + 1) (figures f))
 
-balance-requires : tie.Need-balance-requires
-balance-requires c κs = search needs
+abbrev μ-loop : tie.MeasureT-loop
+μ-loop product heats out₀ i₀ out i = 17 - i
 
-listed-requires : tie.Need-listed-requires
-listed-requires c κs =
-    let p = c .before .before .pre in
-    (p .0, found (p .1) (c .balance .ensures (p .0) (p .1)))
+narrow : (c : tie.After-struct-told Inv-loop μ-loop) → SFits w32 (c .before .before .args .number .0)
+narrow c = search needs
 
-returns : tie.Need-returns
-returns c = λ f k. c .listed .ensures f (found k (c .before .balance .ensures f k))
+loop-holds : tie.Need-loop-holds Inv-loop μ-loop
+loop-holds c = (omega arith, omega arith, omega arith, λ f n p e. e)
+
+per-tonne-requires : tie.Need-per-tonne-requires Inv-loop μ-loop
+per-tonne-requires c κs = per-tonne-can (c .before .before .before .before .before .pre .1) (c .before .before .loop .i) (omega arith)
+
+loop-again : tie.Need-loop-again Inv-loop μ-loop
+loop-again c =
+    let l = c .before .before .before .loop in
+    let z = toZ w64 (ofZ w64 (c .per-tonne .result)) in (
+      omega arith,
+      l .inv .1,
+      set-long ℤ (l .out) (l .i + 1) 20 z (l .inv .2),
+      λ f n p first. filled (l .i + 1) (l .out) (figures f) z (omega arith) (omega (arith, figures-long f)) (l .inv .3 f n p first)
+          (toZ-ofZ (sfits-of (c .per-tonne .ok)) ∙ c .per-tonne .ensures ∙ per-tonne-is p (l .i) (omega arith)),
+    )
+
+of-fuel-requires : tie.Need-of-fuel-requires Inv-loop μ-loop
+of-fuel-requires c κs = of-fuel-can (c .before .before .before .before .before .before .pre .1) 15 (lit< tt)
+
+of-fuel-requires-2 : tie.Need-of-fuel-requires-2 Inv-loop μ-loop
+of-fuel-requires-2 c κs = of-fuel-can (c .before .before .before .before .before .before .before .before .before .pre .1) 16 (lit< tt)
+
+returns : tie.Need-returns Inv-loop μ-loop
+returns c =
+    let a = c .before .before .before in
+    let l = a .before .before .before .before .loop in
+    let t = a .before .before .before .before .before in
+    let x = toZ w64 (ofZ w64 (a .of-fuel .result)) in
+    let y = toZ w64 (ofZ w64 (c .of-fuel2 .result)) in
+    λ f p.
+    let long = figures-long f in
+    let end : l .i ≡ 17 = omega arith in
+    let first = filled 0 (pos 0 ∷ []) (figures f) _ (lit< tt) (omega (arith, long)) refl (widened (narrow t) ∙ number-is p) in
+    let heats = subst (λ (i : ℕ). take (i + 1) (l .out) ≡ take (i + 1) (figures f)) end (l .inv .3 f _ p first) in
+    let eff1 = filled 18 (l .out) (figures f) x (omega arith) (omega (arith, long)) heats (toZ-ofZ (sfits-of (a .of-fuel .ok)) ∙ a .of-fuel .ensures ∙ eff1-is p) in
+    let long1 = set-long ℤ (l .out) 18 20 x (l .inv .2) in
+    let eff2 = filled 19 (set (l .out) 18 x) (figures f) y (omega (arith, long1)) (omega (arith, long)) eff1
+    (toZ-ofZ (sfits-of (c .of-fuel2 .ok)) ∙ c .of-fuel2 .ensures ∙ eff2-is p) in
+    full 20 _ (figures f) (set-long ℤ (set (l .out) 18 x) 19 20 y long1) long eff2
 
 pub figures-spec : {M : Type 1} → statement M
-figures-spec = tie.close (tie.spec balance-requires listed-requires returns)
+figures-spec =
+    tie.close
+    (tie.spec
+    Inv-loop
+    μ-loop
+    (λ c. widens (narrow c))
+    (λ c. omega arith)
+    loop-holds
+    (λ c. omega arith)
+    (λ c. omega arith)
+    per-tonne-requires
+    (λ c. omega arith)
+    (λ c. omega arith)
+    (λ c. omega arith)
+    (λ c. omega arith)
+    (λ c. omega arith)
+    loop-again
+    (λ c. omega arith)
+    (λ c. omega arith)
+    of-fuel-requires
+    (λ c. omega arith)
+    (λ c. omega arith)
+    (λ c. omega arith)
+    of-fuel-requires-2
+    (λ c. omega arith)
+    returns)

@@ -6,6 +6,7 @@ use borrow.Author.Tests.{le-leb}
 use lib.ListN.{length}
 use lib.Dec.{leb}
 use Prim.Native.Nat.{ℕ}
+use Rattle.formulas.specs.Items.{shuttle}
 use Rattle.formulas.specs.Report.{keys, linesText}
 use Rattle.report.proofs.Room.{in-room}
 use Rattle.report.proofs.writing.fits.Statement.{statement}
@@ -15,7 +16,7 @@ returns : tie.Need-returns
 returns c =
     let a = c .before .args in
     let most = in-room (a .figures) (c .before .good .0 .0) (c .before .good .0 .1 .1) in
-    (sym (le-leb (length (linesText keys (a .figures))) (a .room) (omega (arith, most))), most)
+    (sym (le-leb (length (linesText (keys shuttle) (a .figures))) (a .room) (omega (arith, most))), most)
 
 returns-2 : tie.Need-returns-2
 returns-2 c =

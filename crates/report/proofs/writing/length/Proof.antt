@@ -9,6 +9,7 @@ use borrow.Author.Needs.{sfits-of}
 use mir.Syntax.{w64}
 use mir.Facts.{toZ-ofZ}
 use Rattle.text.specs.Decimal.{line}
+use Rattle.formulas.specs.Items.{shuttle}
 use Rattle.formulas.specs.Report.{keys}
 use Rattle.report.proofs.Lines.{firstLines, no-lines, longer, all-lines}
 use Rattle.report.proofs.writing.length.Statement.{statement}
@@ -45,7 +46,7 @@ loop-again : tie.Need-loop-again Inv-loop μ-loop
 loop-again c =
     let l = c .before .before .before .loop in
     let zs = c .before .before .before .before .args .t1 in
-    let e = ap (λ (z : ℤ). length (line (getD keys (l .i) []) z)) (toZ-ofZ {w = w64} {z = getD zs (l .i) (pos 0)} (sfits-of (c .before .line-length-arg .given))) in
+    let e = ap (λ (z : ℤ). length (line (getD (keys shuttle) (l .i) []) z)) (toZ-ofZ {w = w64} {z = getD zs (l .i) (pos 0)} (sfits-of (c .before .line-length-arg .given))) in
     let m = longer (l .i) zs (pos 0) (l .inv .1) (omega arith) in
     (omega arith, l .inv .1, omega (arith, e, m), omega arith)
 

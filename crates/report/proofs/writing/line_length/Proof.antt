@@ -8,6 +8,7 @@ use lib.IntN.{ℤ}
 use mir.Facts.{toZ-ofZ}
 use Rattle.text.specs.Decimal.{decimal}
 use Rattle.text.proofs.Decimal.{length-line, i64-width}
+use Rattle.formulas.specs.Items.{shuttle}
 use Rattle.formulas.specs.Report.{keys}
 use Rattle.report.proofs.Keys.{key-at}
 use Rattle.report.proofs.writing.line_length.Statement.{statement}
@@ -49,7 +50,7 @@ returns c =
     let s = c .before in
     let k = key-at (s .args .i) (s .pre) in
     let w = c .width .ensures ∙ wide s _ (toZ-ofZ (s .fits .figure)) in
-    (omega (arith, length-line (getD keys (s .args .i) []) (s .args .figure), k .size, w), omega (arith, k .short, i64-width (s .args .figure) (s .fits .figure), w))
+    (omega (arith, length-line (getD (keys shuttle) (s .args .i) []) (s .args .figure), k .size, w), omega (arith, k .short, i64-width (s .args .figure) (s .fits .figure), w))
 
 pub line-length-spec : {M : Type 1} → statement M
 line-length-spec =

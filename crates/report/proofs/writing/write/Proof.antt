@@ -12,6 +12,7 @@ use mir.Facts.{toZ-ofZ}
 use Rattle.text.specs.Decimal.{line}
 use Rattle.pen.specs.Writing.{Written}
 use Rattle.pen.proofs.Writing.{begun, next, length-over}
+use Rattle.formulas.specs.Items.{shuttle}
 use Rattle.formulas.specs.Report.{keys}
 use Rattle.report.proofs.Keys.{key-at, Key, cut}
 use Rattle.report.proofs.Lines.{firstLines, no-lines, one-more, all-lines, not-longer}
@@ -75,7 +76,7 @@ S c = L c .before .before
 abbrev called : (c : tie.After-line-at-arg3 Inv-loop μ-loop) → List ℕ
 called c = line (cut (L c .loop .i)) (toZ w64 (ofZ w64 (getD (S c .args .t2) (L c .loop .i) (pos 0))))
 
-as-called : (c : tie.After-line-at-arg3 Inv-loop μ-loop) → called c ≡ line (getD keys (L c .loop .i) []) (getD (S c .args .t2) (L c .loop .i) (pos 0))
+as-called : (c : tie.After-line-at-arg3 Inv-loop μ-loop) → called c ≡ line (getD (keys shuttle) (L c .loop .i) []) (getD (S c .args .t2) (L c .loop .i) (pos 0))
 as-called c = ap₂ line (key (I c) .key) (toZ-ofZ (sfits-of (c .line-at-arg3 .given)))
 
 -- what the turn will have written is within the report
