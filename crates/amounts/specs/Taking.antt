@@ -10,7 +10,8 @@ use Rattle.quantity.specs.declared.gas.Share.{Share}
 use Rattle.sheet.specs.Firing.{Stuff, Wall}
 use Rattle.sheet.specs.Shown.{same, stage}
 use Rattle.lines.specs.Schema.{Field, within, plain}
-use Rattle.lines.specs.Document01.{alike, gasLine, stageLine, wallLine}
+use Rattle.lines.specs.Tests.{alike}
+use Rattle.lines.specs.Document01.{gasLine, stageLine, wallLine}
 use Rattle.lines.specs.Rows.{stageOf, wallOf}
 use Rattle.lines.specs.Rules.{Every}
 use Rattle.amounts.specs.declared.GasTaken.{GasTaken}

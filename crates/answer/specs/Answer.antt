@@ -12,7 +12,7 @@ use Rattle.sheet.specs.declared.Refusal.the-variants.{Accepted, NoRoom}
 use Rattle.sheet.specs.Refusals.{number}
 use Rattle.lines.specs.Reader as lines
 use Rattle.lines.specs.Reader.{Refused, Good, readOf}
-use Rattle.lines.specs.Document01.{document01}
+use Rattle.lines.specs.Editions.{document}
 use Rattle.lines.specs.Rows.{firingOf}
 use Rattle.formulas.specs.Report.{report}
 use Rattle.answer.specs.declared.Answer.{Answer}
@@ -39,11 +39,11 @@ left (Good sheet) old = placed (report (firingOf sheet)) old
 
 -- WHAT COMES BACK for a sheet and so many bytes of room
 unfoldable pub answerOf : List ℕ → ℕ → Answer
-answerOf s room = answered (readOf document01 s) room
+answerOf s room = answered (readOf document s) room
 
 -- WHAT THE ROOM THEN HOLDS
 unfoldable pub bufferOf : List ℕ → List ℕ → List ℕ
-bufferOf s old = left (readOf document01 s) old
+bufferOf s old = left (readOf document s) old
 
 -- WHAT THE PROGRAM PRINTS: the report, or `refused=NUMBER,LINE` and LF
 abbrev pub refusedText : ℕ → ℕ → List ℕ
@@ -54,4 +54,4 @@ told (Refused x n) = refusedText (number x) n
 told (Good sheet) = report (firingOf sheet)
 
 unfoldable pub printedOf : List ℕ → List ℕ
-printedOf s = told (readOf document01 s)
+printedOf s = told (readOf document s)

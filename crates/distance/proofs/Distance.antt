@@ -22,7 +22,7 @@ use Rattle.lines.specs.Quantities.{product, ambient, heating, flue, monoxide, g
 use Rattle.lines.specs.Rules.{Every}
 use Rattle.lines.specs.Rows.{firingOf}
 use Rattle.lines.specs.Limits.{In, StageIn, SectionIn, Limits}
-use Rattle.lines.proofs.Document01.{firing-limits}
+use Rattle.lines.proofs.Editions.{firing-limits}
 use Rattle.formulas.specs.Rounding.{Rounding, paper}
 use Rattle.formulas.specs.Formulas.{joule, sum, sensible, totalGas, q1, q2, q3, q5, q8, x1, x2, x3, x5, x10, dryFlue, vapourRate, vapour, dryHeat, vapourHeat, flueHeat, monoxideHeat, x7, x8, noStage, numbered, sectionOf, stageOf, convection, radiation, flux, wallHeat, x9, waterHeat, useful, withset}
 use Rattle.formulas.specs.Items.{Quantity, Item, item, Sides, shuttle, total, x11, heats}

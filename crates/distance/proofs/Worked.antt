@@ -8,7 +8,7 @@ use Rattle.text.specs.Decimal.{digitsIn, digits, decimal}
 use Rattle.text.specs.Scanning.{upTo, begins}
 use Rattle.lines.specs.Schema.{joined, bodyText, lineText, pieces, numbersOf, formedBy, outsideOf, judge}
 use Rattle.lines.specs.Reader.{rowsText, sheetText, textOf, readLine, readRows, readParts, Good, readOf}
-use Rattle.lines.specs.Document01.{entriesOf, document01, sheetOf}
+use Rattle.lines.specs.Editions.{entriesOf, document, sheetOf}
 use Rattle.lines.specs.Rules.{Every}
 use Rattle.formulas.specs.Marked.{worked}
 use Rattle.formulas.specs.Items.{shuttle}
@@ -18,9 +18,9 @@ use Rattle.distance.proofs.Distance.{demand3}
 
 -- its text, and that it is accepted, by computation
 abbrev text : List ℕ
-text = textOf document01 (sheetOf worked)
+text = textOf document (sheetOf worked)
 
-read : readOf document01 text ≡ Good (sheetOf worked)
+read : readOf document text ≡ Good (sheetOf worked)
 unfolding entriesOf readOf readParts readRows readLine judge formedBy upTo begins pieces numbersOf numberWithin unsigned digitsRead outsideOf textOf sheetText rowsText lineText bodyText joined decimal digits digitsIn
 read = refl
 

@@ -8,8 +8,8 @@ use lib.IntN.{ℤ, pos, natAbs, _-ℤ_, _*ℤ_}
 use Rattle.arith.specs.Root.{root}
 use Rattle.text.specs.Bytes.{bytes}
 use Rattle.sheet.specs.Firing.{Wall, Firing}
-use Rattle.lines.specs.Reader.{Sheet, Good, readOf}
-use Rattle.lines.specs.Document01.{sameKey, document01}
+use Rattle.lines.specs.Reader.{Sheet, Good, readOf, sameKey}
+use Rattle.lines.specs.Editions.{document}
 use Rattle.lines.specs.Rules.{Every}
 use Rattle.lines.specs.Rows.{firingOf}
 use Rattle.formulas.specs.Rounding.{Rounding, square, exact}
@@ -71,4 +71,4 @@ pub record Near (f : Firing) (choice : Choice) (l : Line) : Type 0 where
 -- ---- DEMAND 3: of every text that is accepted, whichever stand-in is chosen for each reading, every line of the report is near
 pub record Demand3 : Type 0 where
   pub enclosed : (n : ℕ) → Enclosed n
-  pub near : (text : List ℕ) (sheet : Sheet) → readOf document01 text ≡ Good sheet → (choice : Choice) → let f = firingOf sheet in Every (Near f choice) (lines (sidesOf (f .edition)))
+  pub near : (text : List ℕ) (sheet : Sheet) → readOf document text ≡ Good sheet → (choice : Choice) → let f = firingOf sheet in Every (Near f choice) (lines (sidesOf (f .edition)))

@@ -15,7 +15,7 @@ use Rattle.sheet.specs.declared.Refusal.{Refusal}
 use Rattle.sheet.specs.declared.Refusal.the-variants.{NoLineFeed, WrongKey, WrongCount, NotANumber, Outside}
 use Rattle.lines.specs.Schema.{Line, Row, plain, Judged, refused, values, pieces, Numbers, none-at, all-are, onNumbers, numbersOf, formedBy, formed, outsideOf, on, judge}
 use Rattle.lines.specs.Schema as schema
-use Rattle.lines.specs.Document01.{when}
+use Rattle.lines.specs.Tests.{when}
 use Rattle.lines.specs.Reader.{stopped, got, judged, readLine}
 use Rattle.lines.proofs.Cases.{unless-values}
 use Rattle.fault.proofs.Judgement.{numbers-many}

@@ -14,7 +14,7 @@ use Rattle.arith.proofs.Span.{far}
 use Rattle.arith.proofs.Machine.{Known, small, range, Mx, raw, mean, span, bound}
 use Rattle.lines.specs.Schema.{Field}
 use Rattle.lines.specs.Limits.{In}
-use Rattle.lines.specs.Document01.{all}
+use Rattle.lines.specs.Tests.{all}
 use Rattle.formulas.specs.Figures.{Within}
 
 -- a quantity's size, from its limits

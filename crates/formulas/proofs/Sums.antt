@@ -15,7 +15,7 @@ use mir.Val.{SFits, hbits}
 use Rattle.arith.proofs.Ring.{v, #, _⊕_, _⊗_, ring}
 use Rattle.arith.proofs.Order.{bound-add, sfits-abs}
 use Rattle.sheet.specs.declared.Stage.{Stage as Stageˢ}
-use Rattle.lines.specs.Document01.{sumOf}
+use Rattle.lines.specs.Tests.{sumOf}
 use Rattle.lines.specs.Rules.{Every}
 use Rattle.formulas.specs.Formulas.{sum}
 use Rattle.formulas.specs.Figures.{Is, Figure}

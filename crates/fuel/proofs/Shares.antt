@@ -18,7 +18,7 @@ use Rattle.arith.proofs.Ring.{Ex, v, lit, #, _⊕_, _⊖_, _⊗_, ring, both-le
 use Rattle.arith.proofs.Order.{abs-add, abs-mul, abs-pos, bound-add, bound-mul, sfits-abs}
 use Rattle.lines.specs.Quantities.{share}
 use Rattle.lines.proofs.Lists.{every-at}
-use Rattle.lines.specs.Document01.{weigh, sumOf, all, airWeights}
+use Rattle.lines.specs.Tests.{weigh, sumOf, all, airWeights}
 use Rattle.lines.specs.Rules.{Every}
 use Rattle.lines.specs.Rows.{gasRow}
 use Rattle.lines.specs.Limits.{In, GasIn}

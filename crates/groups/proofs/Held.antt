@@ -12,7 +12,10 @@ use Rattle.sheet.specs.Firing.{Section}
 use Rattle.sheet.specs.Shown.{gas, stage, setter, part, section, laid, unread}
 use Rattle.lines.specs.Schema.{Row, plain, at}
 use Rattle.lines.specs.Reader.{Sheet, Part, one, filled, readLine, readPart, readParts, readLines}
-use Rattle.lines.specs.Document01.{free, sheetLine, firingLine, productLine, ambientLine, fuelLine, gasLine, airLine, wareLine, waterLine, clayLine, stageLine, setterLine, partLine, sectionLine, wallLine, endLine, entriesOf, partsOf, document01}
+use Rattle.lines.specs.Tests.{free}
+use Rattle.lines.specs.Entries.{partsOf}
+use Rattle.lines.specs.Document01.{sheetLine, firingLine, productLine, ambientLine, fuelLine, gasLine, airLine, wareLine, waterLine, clayLine, stageLine, setterLine, partLine, sectionLine, wallLine, endLine}
+use Rattle.lines.specs.Editions.{entriesOf, document}
 use Rattle.lines.specs.Rows.{gasOf, stageOf, setterOf, partOf, sectionRow, sectionOf, wallOf, editionIn}
 use Rattle.lines.specs.Rules.{Every}
 use Rattle.walls.proofs.Readings.{Placed}
@@ -186,7 +189,7 @@ module _ (s : List ℕ) (start : Place) (e : EditionLine) (u : Upper) (l : Lower
       then-line s endLine free [] t5 Q (w .place) (z .place) (z .place) Z hz (λ end k. parts-done s (z .place) (t5 ++ filled endLine (end ∷ [])) Q (held e u l a b c d w edition end is ku kl st se pa sc wa fa fb fc fd fw) f) (λ h. refl) f)) g7 f)) g6 f)) g5 f)) g4 f)) g3 f
 
   -- ALL LINES
-  pub lines-after : After s start (readLines document01) (z .place) Q
+  pub lines-after : After s start (readLines document) (z .place) Q
   unfolding entriesOf
   lines-after =
       let f = hz .fair in

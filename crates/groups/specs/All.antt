@@ -8,7 +8,7 @@ use Rattle.sheet.specs.declared.Head.{Head}
 use Rattle.sheet.specs.declared.Sheet.{Sheet as Sheetˢ}
 use Rattle.sheet.specs.Shown.{Shows}
 use Rattle.lines.specs.Reader.{Sheet, readLines}
-use Rattle.lines.specs.Document01.{document01}
+use Rattle.lines.specs.Editions.{document}
 use Rattle.lines.specs.Rows.{stagesIn, sectionsIn, wallsIn, firingOf}
 use Rattle.lines.specs.Rules.{Every}
 use Rattle.walls.proofs.Sections.{Distinct}
@@ -51,5 +51,5 @@ pub record Sized (x : Sheetˢ) : Type 0 where
   pub small : Every SmallGas (x .stages .lines)
 
 pub record LinesRead (s : List ℕ) (start : Place) (r : Lines) : Type 0 where
-  pub after : After s start (readLines document01) (r .place) (Held (r .sheet))
+  pub after : After s start (readLines document) (r .place) (Held (r .sheet))
   pub sized : Sized (r .sheet)

@@ -8,7 +8,8 @@ use Rattle.text.specs.Bytes.{bytes}
 use Rattle.sheet.specs.Firing.{Section}
 use Rattle.sheet.specs.Shown.{stage, setter, part}
 use Rattle.lines.specs.Reader.{Sheet, Part, many, readPart}
-use Rattle.lines.specs.Document01.{free, material-rule, section-rule, wall-rule, stageLine, setterLine, partLine, sectionLine, wallLine}
+use Rattle.lines.specs.Tests.{free, material-rule, section-rule, wall-rule}
+use Rattle.lines.specs.Document01.{stageLine, setterLine, partLine, sectionLine, wallLine}
 use Rattle.lines.specs.Rows.{stageOf, setterOf, partOf, stagesIn, sectionsIn}
 use Rattle.lines.specs.Rules.{Every}
 use Rattle.entries.specs.declared.Place.{Place}

@@ -2,9 +2,10 @@
 use mathlib.Core.Path.{_≡_}
 use mathlib.Core.List.{List, [], _∷_, _++_}
 use Rattle.sheet.specs.Shown.{fuel, ware, water}
-use Rattle.lines.specs.Schema.{Row}
+use Rattle.lines.specs.Schema.{Row, at}
 use Rattle.lines.specs.Reader.{Sheet, Part, one, filled}
-use Rattle.lines.specs.Document01.{at, free, gas-rule, material-rule, firingLine, productLine, ambientLine, fuelLine, gasLine, airLine, wareLine, waterLine, clayLine}
+use Rattle.lines.specs.Tests.{free, gas-rule, material-rule}
+use Rattle.lines.specs.Document01.{firingLine, productLine, ambientLine, fuelLine, gasLine, airLine, wareLine, waterLine, clayLine}
 use Rattle.lines.specs.Rows.{fuelOf, wareOf, waterOf}
 use Rattle.groups.specs.declared.tops.Upper.{Upper}
 use Rattle.groups.specs.declared.tops.Lower.{Lower}

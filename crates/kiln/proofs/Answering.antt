@@ -6,7 +6,7 @@ use lib.ListN.{length}
 use Rattle.sheet.specs.declared.Refusal.{Refusal}
 use Rattle.sheet.specs.Refusals.{number}
 use Rattle.lines.specs.Reader.{Sheet, Refused, Good, readOf}
-use Rattle.lines.specs.Document01.{document01}
+use Rattle.lines.specs.Editions.{document}
 use Rattle.lines.specs.Rows.{firingOf}
 use Rattle.lines.proofs.Cases.{clash}
 use Rattle.formulas.specs.Report.{report}
@@ -22,7 +22,7 @@ pub one-buffer : (s old a b : List ℕ) → a ≡ bufferOf s old → b ≡ buffe
 one-buffer s old a b p q = p ∙ sym q
 
 -- A SHEET THAT IS ACCEPTED
-module _ (s : List ℕ) {sheet : Sheet} (good : readOf document01 s ≡ Good sheet) where
+module _ (s : List ℕ) {sheet : Sheet} (good : readOf document s ≡ Good sheet) where
   pub answer-good : (room : ℕ) → fitted (report (firingOf sheet)) room ≡ answerOf s room
   unfolding answerOf
   answer-good room = rw good refl
@@ -39,7 +39,7 @@ module _ (s : List ℕ) {sheet : Sheet} (good : readOf document01 s ≡ Good she
   short-good h other e = let p : sheet ≡ other = cc in subst (λ (x : Sheet). length (report (firingOf x)) ≤ 600) p h
 
 -- A SHEET THAT IS REFUSED
-module _ (s : List ℕ) {x : Refusal} {n : ℕ} (bad : readOf document01 s ≡ Refused x n) where
+module _ (s : List ℕ) {x : Refusal} {n : ℕ} (bad : readOf document s ≡ Refused x n) where
   pub answer-bad : (room : ℕ) → refusedAs (number x) n ≡ answerOf s room
   unfolding answerOf
   answer-bad room = rw bad refl

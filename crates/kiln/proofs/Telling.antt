@@ -8,7 +8,7 @@ use lib.ListN.{length}
 use Rattle.pen.specs.Writing.{over, Written}
 use Rattle.lines.specs.Reader as lines
 use Rattle.lines.specs.Reader.{Sheet, Refused, Good, readOf}
-use Rattle.lines.specs.Document01.{document01}
+use Rattle.lines.specs.Editions.{document}
 use Rattle.lines.specs.Rows.{firingOf}
 use Rattle.lines.proofs.Numbering.{refuses}
 use Rattle.formulas.specs.Report.{report}
@@ -20,13 +20,13 @@ use Rattle.kiln.proofs.Answering.{answer-good, buffer-good, printed-goo
 
 module _ (s old new : List ℕ) (a : Answer) (short : Short s) (room : 600 ≤ length old) (is-answer : a ≡ answerOf s (length old)) (is-buffer : new ≡ bufferOf s old) where
   -- an accepted sheet's report has room
-  good-answer : (sheet : Sheet) → readOf document01 s ≡ Good sheet → a ≡ record { refusal = 0; line = 0; length = length (report (firingOf sheet)) }
+  good-answer : (sheet : Sheet) → readOf document s ≡ Good sheet → a ≡ record { refusal = 0; line = 0; length = length (report (firingOf sheet)) }
   good-answer sheet e = is-answer ∙ sym (enough (report (firingOf sheet)) (length old) (le-trans (short sheet e) room) refl ∙ answer-good s e (length old))
 
   pub report-told : a .refusal ≡ 0 → Written 0 (printedOf s) old new (a .length) × (a .length ≤ 600)
-  report-told zero = here (readOf document01 s) refl
+  report-told zero = here (readOf document s) refl
     where
-      here : (r : lines.Answer) → readOf document01 s ≡ r → Written 0 (printedOf s) old new (a .length) × (a .length ≤ 600)
+      here : (r : lines.Answer) → readOf document s ≡ r → Written 0 (printedOf s) old new (a .length) × (a .length ≤ 600)
       here (Refused x n) e = absurd (omega (arith, zero, ap (λ (y : Answer). y .refusal) (is-answer ∙ sym (answer-bad s e (length old))), refuses s x n e .named))
       here (Good sheet) e =
           let size = ap (λ (y : Answer). y .length) (good-answer sheet e) in
@@ -35,8 +35,8 @@ module _ (s old new : List ℕ) (a : Answer) (short : Short s) (room : 600 ≤ l
           (rw (← printed-good s e) (record { ends = size ∙ sym (zero-add (length (report (firingOf sheet)))); holds = holds }), omega (arith, size, short sheet e))
 
   pub refusal-told : 0 < a .refusal → (refusedText (a .refusal) (a .line) ≡ printedOf s) × (new ≡ old)
-  refusal-told some = here (readOf document01 s) refl
+  refusal-told some = here (readOf document s) refl
     where
-      here : (r : lines.Answer) → readOf document01 s ≡ r → (refusedText (a .refusal) (a .line) ≡ printedOf s) × (new ≡ old)
+      here : (r : lines.Answer) → readOf document s ≡ r → (refusedText (a .refusal) (a .line) ≡ printedOf s) × (new ≡ old)
       here (Refused x n) e = (ap (λ (y : Answer). refusedText (y .refusal) (y .line)) (is-answer ∙ sym (answer-bad s e (length old))) ∙ printed-bad s e, is-buffer ∙ sym (buffer-bad s e old))
       here (Good sheet) e = absurd (omega (arith, some, ap (λ (y : Answer). y .refusal) (good-answer sheet e)))

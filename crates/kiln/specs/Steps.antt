@@ -4,10 +4,10 @@ use mathlib.Core.Path.{_≡_}
 use mathlib.Core.List.{List}
 use lib.ListN.{length}
 use Rattle.lines.specs.Reader.{Sheet, Good, readOf}
-use Rattle.lines.specs.Document01.{document01}
+use Rattle.lines.specs.Editions.{document}
 use Rattle.lines.specs.Rows.{firingOf}
 use Rattle.formulas.specs.Report.{report}
 
 -- the report of an accepted sheet has no more than 600 bytes
 abbrev pub Short : List ℕ → Type 0
-Short s = (sheet : Sheet) → readOf document01 s ≡ Good sheet → length (report (firingOf sheet)) ≤ 600
+Short s = (sheet : Sheet) → readOf document s ≡ Good sheet → length (report (firingOf sheet)) ≤ 600

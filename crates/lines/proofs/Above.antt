@@ -6,8 +6,9 @@ use mathlib.Core.Logic.{⊎-elim}
 use mathlib.Core.Option.{none}
 use Rattle.lines.specs.Schema.{Line, Row}
 use Rattle.lines.specs.Reader.{Filled, Sheet, Rule, Part, one, many, lineOf, ruleOf, filled, Along, RowsKeep, PartKeeps, PartsKeep}
-use Rattle.lines.specs.Document01.{free}
-use Rattle.lines.specs.Rules.{Some, Every, NoTwo, unruled}
+use Rattle.lines.specs.Tests.{free}
+use Rattle.lines.specs.Editions.{unruled}
+use Rattle.lines.specs.Rules.{Some, Every, NoTwo}
 use Rattle.lines.proofs.Lists.{every-imp, every-with, some-before, some-last, some-either}
 
 -- each says the other

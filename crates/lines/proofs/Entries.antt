@@ -11,8 +11,11 @@ use Rattle.text.specs.Bytes.{bytes}
 use Rattle.sheet.specs.Firing.{Stage, Wall, Firing}
 use Rattle.lines.specs.Schema.{Row}
 use Rattle.lines.specs.Reader.{Sheet, rowsOf, Rule, Part, ruleOf, keyOf}
-use Rattle.lines.specs.Quantities.{product, ambient, heating, fuelTemperature, share, moisture, mass, sectionNumber, stageNumber, surface, nearAir}
-use Rattle.lines.specs.Document01.{sumOf, weigh, airWeights, gasLine, stageLine, setterLine, partLine, sectionLine, wallLine, Entry, opening, heading, burning, drying, staging, loading, surfaces, ending, entriesOf, partsOf}
+use Rattle.lines.specs.Quantities.{product, ambient, heating, fuelTemperature, share, moisture, mass, sectionNumber, stageNumber, surface, nearAir, stagesMost, settersMost, partsMost, sectionsMost, wallsMost}
+use Rattle.lines.specs.Tests.{sumOf, weigh, airWeights}
+use Rattle.lines.specs.Entries.{Entry, partsOf}
+use Rattle.lines.specs.Document01.{gasLine, stageLine, setterLine, partLine, sectionLine, wallLine, opening, heading, fuelling, drying, staging, loading, surfaces, ending}
+use Rattle.lines.specs.Editions.{entriesOf}
 use Rattle.lines.specs.Rules.{Every, NoTwo, MaterialKeeps, GasKeeps, SameNumber, Listed, Staged, Warm}
 use Rattle.lines.specs.Rows.{gasOf, stageRow, stageOf, setterRow, setterOf, partRow, partOf, sectionRow, sectionOf, wallRow, wallOf, first, editionIn, stageAs, stagesIn, sectionsIn, wallAs, wallsIn, firingOf}
 use Rattle.lines.specs.Limits.{In, GasIn, WareIn, WaterIn, StageIn, SetterIn, PartIn, SectionIn, WallIn, Apart}
@@ -36,14 +39,14 @@ pub record Lawful (edition : ℤ) (e : Entry) : Type 0 where
 abbrev pub FormedAt : Sheet → Entry → Type 0
 FormedAt s e = PartForm (e .part) (rowsOf (keyOf (e .part)) s)
 
-abbrev pub linesOf : ℤ → List Part
-linesOf edition = partsOf (opening ∷ entriesOf edition)
+abbrev pub allLines : ℤ → List Part
+allLines edition = partsOf (opening ∷ entriesOf edition)
 
 -- A GROUP: what its rules ask of the sheet, and what is then known of the firing
 pub record Group (edition : ℤ) (es : List Entry) (Known : Firing → Type 0) (Asked : Sheet → Type 0) : Type 0 where
   pub each : Every (Lawful edition) es
   pub known : (s : Sheet) → editionIn s ≡ edition → Every (FormedAt s) es → Asked s → Known (firingOf s)
-  pub asked : (s : Sheet) → editionIn s ≡ edition → Keyed (linesOf edition) s → Same (Every (λ e. RuledAt s (e .part)) es) (Asked s)
+  pub asked : (s : Sheet) → editionIn s ≡ edition → Keyed (allLines edition) s → Same (Every (λ e. RuledAt s (e .part)) es) (Asked s)
 
 infixr 5 _then_
 pub _then_ : {edition : ℤ} {a b : List Entry} {K L : Firing → Type 0} {A B : Sheet → Type 0}
@@ -94,7 +97,7 @@ heading-laws = record {
 }
 
 -- ---- FUEL, GAS
-pub record BurningIn (f : Firing) : Type 0 where
+pub record FuellingIn (f : Firing) : Type 0 where
   pub heating : In heating (f .fuel .heating)
   pub temperature : In fuelTemperature (f .fuel .temperature)
   pub gas : GasIn (f .gas)
@@ -109,8 +112,8 @@ gas-in {rows = rows} o k =
       air = subst (λ (r : Row). pos 0 <ℤ weigh airWeights (r .numbers)) back (kept .1);
     })
 
-pub burning-laws : {edition : ℤ} → Group edition burning BurningIn (λ s. Every GasKeeps (rowsOf (bytes "gas") s))
-burning-laws = record {
+pub fuelling-laws : {edition : ℤ} → Group edition fuelling FuellingIn (λ s. Every GasKeeps (rowsOf (bytes "gas") s))
+fuelling-laws = record {
   each = record { back = λ s e. one-back; named = λ s r. tt } & record { back = λ s e. one-back; named = λ s r. gas-asks s r .named } & tt;
   known = λ s e k a. record { heating = one-in (k .0) 0; temperature = one-in (k .0) 1; gas = gas-in (k .1 .0) a };
   asked = λ s e k. let gas = alone s _ gas-asks in record { to = λ r. gas .to (r .1 .0); from = λ r. unasked s _ (λ t r. refl) & gas .from r & tt };
@@ -148,7 +151,7 @@ drying-laws = record {
 -- ---- STAGES
 pub record StagingIn (f : Firing) : Type 0 where
   pub each : Every StageIn (f .stages)
-  pub most : length (f .stages) ≤ 12
+  pub most : length (f .stages) ≤ stagesMost
 
 pub staging-laws : {edition : ℤ} → ReadAs edition stageAs stageOf → Group edition staging StagingIn Silent
 staging-laws {edition} read = record {
@@ -164,9 +167,9 @@ staging-laws {edition} read = record {
 -- ---- SETTERS, PARTS
 pub record LoadingIn (f : Firing) : Type 0 where
   pub setters : Every SetterIn (f .setters)
-  pub settersMost : length (f .setters) ≤ 32
+  pub settersMost : length (f .setters) ≤ settersMost
   pub parts : Every PartIn (f .parts)
-  pub partsMost : length (f .parts) ≤ 32
+  pub partsMost : length (f .parts) ≤ partsMost
 
 pub record LoadingKeeps (s : Sheet) : Type 0 where
   pub setters : Every (MaterialKeeps 2) (rowsOf (bytes "setter") s)
@@ -193,9 +196,9 @@ loading-laws = record {
 -- ---- SECTIONS, WALLS
 pub record SurfacesIn (f : Firing) : Type 0 where
   pub sections : Every SectionIn (f .sections)
-  pub sectionsMost : length (f .sections) ≤ 12
+  pub sectionsMost : length (f .sections) ≤ sectionsMost
   pub walls : Every (WallIn f) (f .walls)
-  pub wallsMost : length (f .walls) ≤ 48
+  pub wallsMost : length (f .walls) ≤ wallsMost
   pub apart : Apart (f .walls)
 
 pub record SurfacesKeep (s : Sheet) : Type 0 where
@@ -224,7 +227,7 @@ walls-in s r fields =
       warmer = not-below (w .surface) (w .air) (m .1 .1);
     }) ws fields ruled
 
-pub surfaces-laws : {edition : ℤ} → ReadAs edition wallAs wallOf → ordered (linesOf edition) ≡ true → Group edition surfaces SurfacesIn SurfacesKeep
+pub surfaces-laws : {edition : ℤ} → ReadAs edition wallAs wallOf → ordered (allLines edition) ≡ true → Group edition surfaces SurfacesIn SurfacesKeep
 surfaces-laws {edition} read o = record {
   each =
       record { back = λ s e. many-back sectionRow sectionOf (row-back sectionLine); named = λ s r. section-asks (sectionsIn s) (sectionOf r) .named }
@@ -243,7 +246,7 @@ surfaces-laws {edition} read o = record {
   };
   asked = λ s e k.
       let sections = sections-ruled s in
-      let walls = walls-ruled (wallLine .fields) s (linesOf edition) k o in
+      let walls = walls-ruled (wallLine .fields) s (allLines edition) k o in
       record { to = λ r. record { numbered = sections .to (r .0); readings = walls .to (r .1 .0) }; from = λ r. sections .from (r .numbered) & walls .from (r .readings) & tt };
 }
 
@@ -264,7 +267,7 @@ pub record AllKeep (s : Sheet) : Type 0 where
 
 pub record AllIn (f : Firing) : Type 0 where
   pub heading : HeadingIn f
-  pub burning : BurningIn f
+  pub fuelling : FuellingIn f
   pub drying : DryingIn f
   pub staging : StagingIn f
   pub loading : LoadingIn f
@@ -276,7 +279,7 @@ Keeping s =
     × (Unit {0} × (LoadingKeeps s × (SurfacesKeep s × Unit {0}))))))
 
 abbrev Knowing : Firing → Type 0
-Knowing f = Unit {0} × (HeadingIn f × (BurningIn f × (DryingIn f × (StagingIn f × (LoadingIn f × (SurfacesIn f × Unit {0}))))))
+Knowing f = Unit {0} × (HeadingIn f × (FuellingIn f × (DryingIn f × (StagingIn f × (LoadingIn f × (SurfacesIn f × Unit {0}))))))
 
 gathered : {edition : ℤ} {es : List Entry} → Group edition es Knowing Keeping → Group edition es AllIn AllKeep
 gathered g =
@@ -285,7 +288,7 @@ gathered g =
       each = g .each;
       known = λ s e k a.
           let m = g .known s e k (back s a) .1 in
-          record { heading = m .0; burning = m .1 .0; drying = m .1 .1 .0; staging = m .1 .1 .1 .0; loading = m .1 .1 .1 .1 .0; surfaces = m .1 .1 .1 .1 .1 .0 };
+          record { heading = m .0; fuelling = m .1 .0; drying = m .1 .1 .0; staging = m .1 .1 .1 .0; loading = m .1 .1 .1 .1 .0; surfaces = m .1 .1 .1 .1 .1 .0 };
       asked = λ s e k. record {
         to = λ r. let m = g .asked s e k .to r .1 .1 in record { gas = m .0; ware = m .1 .0; loading = m .1 .1 .1 .0; surfaces = m .1 .1 .1 .1 .0 };
         from = λ a. g .asked s e k .from (back s a);
@@ -293,7 +296,7 @@ gathered g =
     }
 
 pub record Sheets (edition : ℤ) : Type 0 where
-  pub distinct : distinct (linesOf edition) ≡ true
+  pub distinct : distinct (allLines edition) ≡ true
   pub groups : Group edition (opening ∷ entriesOf edition) AllIn AllKeep
 
 pub sheets : (edition : ℤ) → Sheets edition
@@ -303,7 +306,7 @@ sheets edition = record {
   groups = gathered
       (opening-laws
       then heading-laws
-      then burning-laws
+      then fuelling-laws
       then drying-laws
       then staging-laws (λ s e r. refl)
       then loading-laws

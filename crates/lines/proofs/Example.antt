@@ -12,8 +12,8 @@ use Rattle.text.specs.Decimal.{digitsIn, digits, decimal}
 use Rattle.text.specs.Scanning.{upTo, begins}
 use Rattle.sheet.specs.Refusals as refusals
 use Rattle.lines.specs.Schema.{joined, bodyText, lineText, pieces, numbersOf, formedBy, outsideOf, judge}
-use Rattle.lines.specs.Reader.{rowsText, sheetText, textOf, readLine, readRows, readParts, Answer, Refused, Good, readOf}
-use Rattle.lines.specs.Document01.{sameKey, entriesOf, document01}
+use Rattle.lines.specs.Reader.{rowsText, sheetText, textOf, readLine, readRows, readParts, Answer, Refused, Good, readOf, sameKey}
+use Rattle.lines.specs.Editions.{entriesOf, document}
 
 -- the sheet of document 01, with other values in some places and with other lines from `section` on
 abbrev sheet : String → String → String → String → List ℕ
@@ -97,7 +97,7 @@ heard (Good s) = 0 ∷ 0 ∷ []
 
 abbrev right : List Case → Bool
 right [] = true
-right (c ∷ cs) = sameKey (heard (readOf document01 (c .text))) (c .number ∷ c .line ∷ []) && right cs
+right (c ∷ cs) = sameKey (heard (readOf document (c .text))) (c .number ∷ c .line ∷ []) && right cs
 
 -- the table holds
 pub edges : right cases ≡ true
@@ -107,8 +107,8 @@ edges = refl
 -- the text of the firing that is read is the text
 abbrev again : Answer → List ℕ
 again (Refused r n) = []
-again (Good s) = textOf document01 s
+again (Good s) = textOf document s
 
-pub text-again : again (readOf document01 (section whole)) ≡ section whole
+pub text-again : again (readOf document (section whole)) ≡ section whole
 unfolding entriesOf readOf readParts readRows readLine judge formedBy upTo begins pieces numbersOf numberWithin unsigned digitsRead outsideOf textOf sheetText rowsText lineText bodyText joined decimal digits digitsIn
 text-again = refl

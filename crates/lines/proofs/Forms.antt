@@ -10,8 +10,9 @@ use lib.Seq.{append-snoc}
 use borrow.Author.Tests.{eq-eqb}
 use Rattle.lines.specs.Schema.{Line, Row, fits}
 use Rattle.lines.specs.Reader.{Filled, Sheet, sameKey, rowsOf, Part, one, many, keyOf, RowsKeep, PartKeeps, Along, PartsKeep}
-use Rattle.lines.specs.Document01.{free}
-use Rattle.lines.specs.Rules.{Every, unruled}
+use Rattle.lines.specs.Tests.{free}
+use Rattle.lines.specs.Editions.{unruled}
+use Rattle.lines.specs.Rules.{Every}
 use Rattle.lines.proofs.Cases.{clash, both}
 use Rattle.lines.proofs.Above.{Same}
 use Rattle.lines.proofs.Lists.{every-with}

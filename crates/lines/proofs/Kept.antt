@@ -6,15 +6,18 @@ use lib.IntN.{ℤ}
 use Rattle.text.specs.Bytes.{bytes}
 use Rattle.sheet.specs.declared.Refusal.{Refusal}
 use Rattle.lines.specs.Reader.{Sheet, rowsOf, Part, keyOf, PartsKeep, LinesKeep, Keeps}
-use Rattle.lines.specs.Document01.{whole-rule, Entry, opening, entriesOf, partsOf, document01, fill, sheetOf}
-use Rattle.lines.specs.Rules.{Every, KeepsRules, unruled, form01}
+use Rattle.lines.specs.Tests.{whole-rule}
+use Rattle.lines.specs.Entries.{Entry, partsOf, fill}
+use Rattle.lines.specs.Document01.{opening}
+use Rattle.lines.specs.Editions.{entriesOf, document, sheetOf, unruled, formOnly}
+use Rattle.lines.specs.Rules.{Every, KeepsRules}
 use Rattle.lines.specs.Rows.{editionIn, stagesIn, sectionsIn, wallsIn, firingOf}
 use Rattle.lines.proofs.Rules.{whole-asks}
 use Rattle.lines.proofs.Lists.{every-made, made-every}
 use Rattle.lines.proofs.Above.{Same, RowsRuled, parts-split, parts-join}
 use Rattle.lines.proofs.Forms.{PartForm, Keyed, by-key, form-of, under, refilled}
 use Rattle.lines.proofs.Ruled.{RuledAt}
-use Rattle.lines.proofs.Entries.{Lawful, FormedAt, linesOf, AllKeep, sheets}
+use Rattle.lines.proofs.Entries.{Lawful, FormedAt, allLines, AllKeep, sheets}
 
 -- THE LINES, the first with those that it chooses: what it says is the edition, also of the whole sheet
 all-lines : (below : ℤ → List Part) (whole : Sheet → Option Refusal) (sheet : Sheet)
@@ -27,23 +30,23 @@ all-lines below whole (f ∷ fs) =
       from = λ k. (k .0, subst (λ (z : ℤ). PartsKeep (below z) (f ∷ []) fs) (sym (e (k .0 .0))) (k .1));
     }
 
-ruled-lines : (sheet : Sheet) → Same (LinesKeep document01 sheet) (PartsKeep (linesOf (editionIn sheet)) [] sheet)
+ruled-lines : (sheet : Sheet) → Same (LinesKeep document sheet) (PartsKeep (allLines (editionIn sheet)) [] sheet)
 ruled-lines sheet = all-lines (λ z. partsOf (entriesOf z)) whole-rule sheet
 
-formed-lines : (sheet : Sheet) → Same (LinesKeep form01 sheet) (PartsKeep (map unruled (linesOf (editionIn sheet))) [] sheet)
+formed-lines : (sheet : Sheet) → Same (LinesKeep formOnly sheet) (PartsKeep (map unruled (allLines (editionIn sheet))) [] sheet)
 formed-lines sheet = all-lines (λ z. map unruled (partsOf (entriesOf z))) (λ s. none) sheet
 
-pub form-kept : (sheet : Sheet) → Keeps document01 sheet → Keeps form01 sheet
+pub form-kept : (sheet : Sheet) → Keeps document sheet → Keeps formOnly sheet
 form-kept sheet k =
-    let ps = linesOf (editionIn sheet) in
+    let ps = allLines (editionIn sheet) in
     record { lines = formed-lines sheet .from (parts-split ps [] sheet (ruled-lines sheet .to (k .lines)) .0); whole = refl }
 
 -- THE FORM: the rows under each key, and the sheet is its firing's; for this the rules do not count
 pub record FormIn (sheet : Sheet) : Type 0 where
-  pub keyed : Keyed (linesOf (editionIn sheet)) sheet
+  pub keyed : Keyed (allLines (editionIn sheet)) sheet
   pub each : Every (FormedAt sheet) (opening ∷ entriesOf (editionIn sheet))
 
-pub form-in : (sheet : Sheet) → Keeps form01 sheet → FormIn sheet
+pub form-in : (sheet : Sheet) → Keeps formOnly sheet → FormIn sheet
 form-in sheet k =
     let es = opening ∷ entriesOf (editionIn sheet) in
     let f = form-of (partsOf es) sheet (sheets (editionIn sheet) .distinct) (formed-lines sheet .to (k .lines)) in
@@ -53,17 +56,17 @@ said : (s : Sheet) (es : List Entry) → Every (Lawful (editionIn s)) es → Eve
 said s [] l k = refl
 said s (x ∷ es) l k = rw (l .0 .back s refl (k .0), said s es (l .1) (k .1))
 
-pub form-back : (sheet : Sheet) → Keeps form01 sheet → sheetOf (firingOf sheet) ≡ sheet
+pub form-back : (sheet : Sheet) → Keeps formOnly sheet → sheetOf (firingOf sheet) ≡ sheet
 form-back sheet k =
     let f = form-in sheet k in
     let laws = sheets (editionIn sheet) in
-    said sheet (opening ∷ entriesOf (editionIn sheet)) (laws .groups .each) (f .each) ∙ refilled (linesOf (editionIn sheet)) sheet (laws .distinct) (f .keyed)
+    said sheet (opening ∷ entriesOf (editionIn sheet)) (laws .groups .each) (f .each) ∙ refilled (allLines (editionIn sheet)) sheet (laws .distinct) (f .keyed)
 
-pub sheet-back : (sheet : Sheet) → Keeps document01 sheet → sheetOf (firingOf sheet) ≡ sheet
+pub sheet-back : (sheet : Sheet) → Keeps document sheet → sheetOf (firingOf sheet) ≡ sheet
 sheet-back sheet k = form-back sheet (form-kept sheet k)
 
 -- THE PLAIN RULES ARE WHAT THE TESTS ASK: of the lines group by group, and of the whole
-lines-ruled : (sheet : Sheet) → Keyed (linesOf (editionIn sheet)) sheet → Same (Every (RuledAt sheet) (linesOf (editionIn sheet))) (AllKeep sheet)
+lines-ruled : (sheet : Sheet) → Keyed (allLines (editionIn sheet)) sheet → Same (Every (RuledAt sheet) (allLines (editionIn sheet))) (AllKeep sheet)
 lines-ruled sheet e =
     let es = opening ∷ entriesOf (editionIn sheet) in
     let asked = sheets (editionIn sheet) .groups .asked sheet refl e in
@@ -72,14 +75,14 @@ lines-ruled sheet e =
       from = λ k. made-every (λ x. x .part) (RuledAt sheet) es (asked .from k);
     }
 
-pub lines-kept : (sheet : Sheet) → Keeps document01 sheet → AllKeep sheet
+pub lines-kept : (sheet : Sheet) → Keeps document sheet → AllKeep sheet
 lines-kept sheet k =
-    let ps = linesOf (editionIn sheet) in
+    let ps = allLines (editionIn sheet) in
     let e = form-in sheet (form-kept sheet k) .keyed in
     lines-ruled sheet e .to (by-key RowsRuled ps [] sheet (sheets (editionIn sheet) .distinct) e .to (parts-split ps [] sheet (ruled-lines sheet .to (k .lines)) .1))
 
 -- THE LAWS, of any sheet
-pub rules-kept : (sheet : Sheet) → Keeps document01 sheet → KeepsRules sheet
+pub rules-kept : (sheet : Sheet) → Keeps document sheet → KeepsRules sheet
 rules-kept sheet k =
     let lines = lines-kept sheet k in
     let readings = lines .surfaces .readings in
@@ -98,9 +101,9 @@ rules-kept sheet k =
       total = whole .0;
     }
 
-pub all-kept : (sheet : Sheet) → Keeps form01 sheet → KeepsRules sheet → Keeps document01 sheet
+pub all-kept : (sheet : Sheet) → Keeps formOnly sheet → KeepsRules sheet → Keeps document sheet
 all-kept sheet k r =
-    let ps = linesOf (editionIn sheet) in
+    let ps = allLines (editionIn sheet) in
     let e = form-in sheet k .keyed in
     let lines : AllKeep sheet = record {
       gas = r .gas;

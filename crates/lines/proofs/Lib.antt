@@ -16,5 +16,6 @@ pub mod Kept
 pub mod Limits
 pub mod Numbering
 pub mod Document01
+pub mod Editions
 pub mod Readings
 pub mod Example

@@ -19,7 +19,7 @@ use Rattle.lines.specs.Schema.{on, Field, Line, Row, plain, Judged, refu
 use Rattle.lines.specs.Reader.{Sheet, Rule, Part, one, many, ruleOf, countLine, Document, Read, stopped, got, Reader, andThen, judged, readLine, filled, readRows, readPart, readParts, readLines, Answer, Refused, Good, judgedWhole, readOf}
 use Rattle.lines.specs.Rows.{editionIn, stagesIn, sectionsIn, wallsIn}
 use Rattle.lines.specs.Rules.{Every}
-use Rattle.lines.specs.Document01.{entriesOf, document01}
+use Rattle.lines.specs.Editions.{entriesOf, document}
 use Rattle.lines.proofs.Lists.{every-imp, made-every}
 use Rattle.lines.proofs.Rules.{Named, whole-asks}
 use Rattle.lines.proofs.Entries.{NamedRule, sheets}
@@ -146,12 +146,12 @@ heard d named text = here (ltb 16384 (length text)) refl
     here false q = whole-heard d named (readLines d 1 text) (lines-reached d named 1 text 16385 (omega (arith, ltb-false 16384 (length text) q)))
 
 -- ---- document 01
-named01 : NamedDocument document01
-named01 = record {
+document-named : NamedDocument document
+document-named = record {
   first = λ seen row. tt;
   below = λ seen. made-every (λ e. e .part) NamedPart (entriesOf (editionIn seen)) (every-imp (λ e h. h .named) (entriesOf (editionIn seen)) (sheets (editionIn seen) .groups .each .1));
   whole = λ s. whole-asks (stagesIn s) (sectionsIn s) (wallsIn s) .named;
 }
 
-pub refuses : (text : List ℕ) (x : Refusal) (n : ℕ) → readOf document01 text ≡ Refused x n → Refuses x n
-refuses text x n e = subst Heard e (heard document01 named01 text)
+pub refuses : (text : List ℕ) (x : Refusal) (n : ℕ) → readOf document text ≡ Refused x n → Refuses x n
+refuses text x n e = subst Heard e (heard document document-named text)

@@ -8,12 +8,12 @@ use lib.ListN.{length}
 use lib.IntN.{ℤ, pos, natAbs}
 use Rattle.sheet.specs.Firing.{Section, Wall}
 use Rattle.lines.specs.Reader.{Sheet, Good, readOf}
-use Rattle.lines.specs.Document01.{document01}
+use Rattle.lines.specs.Editions.{document}
 use Rattle.lines.specs.Rules.{Some, Every, NoTwo, SameNumber}
 use Rattle.lines.specs.Rows.{stagesIn, sectionsIn, wallsIn, firingOf}
 use Rattle.lines.proofs.Whole.{kept}
 use Rattle.lines.proofs.Kept.{rules-kept}
-use Rattle.lines.proofs.Document01.{firing-limits}
+use Rattle.lines.proofs.Editions.{firing-limits}
 
 -- a reading at a section in a stage
 abbrev Cell : ℤ → ℤ → Wall → Type 0
@@ -67,7 +67,7 @@ as-many n (r ∷ rs) ws d h =
     omega (arith, a .fewer, as-many n rs (a .rest) (d .1) (still n r ws a rs (d .0) (h .1)))
 
 -- 8 is always said where sections times stages pass 48
-pub readings-most : (text : List ℕ) (sheet : Sheet) → readOf document01 text ≡ Good sheet → length (firingOf sheet .sections) * length (firingOf sheet .stages) ≤ 48
+pub readings-most : (text : List ℕ) (sheet : Sheet) → readOf document text ≡ Good sheet → length (firingOf sheet .sections) * length (firingOf sheet .stages) ≤ 48
 readings-most text sheet e =
-    let r = rules-kept sheet (kept document01 text sheet e .keeps) in
+    let r = rules-kept sheet (kept document text sheet e .keeps) in
     omega (arith, as-many (length (stagesIn sheet)) (sectionsIn sheet) (wallsIn sheet) (r .numbered) (r .read), firing-limits text sheet e .wallsMost)

@@ -11,7 +11,8 @@ use lib.IntN.{ℤ, pos}
 use Rattle.sheet.specs.Firing.{Firing}
 use Rattle.lines.specs.Schema.{Line, Row, plain, at, inRanges, fits, within}
 use Rattle.lines.specs.Quantities.{closing}
-use Rattle.lines.specs.Document01.{endLine, entriesOf, sheetOf}
+use Rattle.lines.specs.Document01.{endLine}
+use Rattle.lines.specs.Editions.{entriesOf, sheetOf}
 use Rattle.lines.specs.Rules.{Every}
 use Rattle.lines.specs.Rows.{stageRow, stageOf, setterRow, setterOf, partRow, partOf, sectionRow, sectionOf, wallRow, wallOf, first, firingOf}
 use Rattle.lines.proofs.Cases.{both}

@@ -9,7 +9,10 @@ use Rattle.sheet.specs.declared.Refusal.{Refusal}
 use Rattle.sheet.specs.Firing.{Wall}
 use Rattle.lines.specs.Schema.{Field, Row, at}
 use Rattle.lines.specs.Reader.{Sheet, rowsOf, Part, many, lineOf, ruleOf, keyOf, filled}
-use Rattle.lines.specs.Document01.{line, section-rule, wallFault, wall-rule, sectionLine}
+use Rattle.lines.specs.Quantities.{wallsMost}
+use Rattle.lines.specs.Tests.{wallFault, wall-rule}
+use Rattle.lines.specs.Entries.{line}
+use Rattle.lines.specs.Document01.{sectionLine, sections}
 use Rattle.lines.specs.Rules.{Some, Every, NoTwo, SameNumber, Listed, Staged, SameReading, Warm, WallKeeps}
 use Rattle.lines.specs.Rows.{sectionOf, first, editionIn, stageAs, stagesIn, sectionsIn, wallAs, wallsIn}
 use Rattle.lines.proofs.Cases.{both}
@@ -45,9 +48,9 @@ module _ (s : Sheet) (p : Part) where
   unasked h = record { each = every-each {P = λ row. Unit {0}} (λ above row m. h _ row) [] (rowsOf (keyOf p) s) (every-one (λ row. tt) (rowsOf (keyOf p) s)) }
 
 -- 6: a section, and those above it
-pub sections-ruled : (s : Sheet) → Same (RuledAt s (many (bytes "sections") 1 12 sectionLine section-rule)) (NoTwo SameNumber (sectionsIn s))
+pub sections-ruled : (s : Sheet) → Same (RuledAt s (sections .part)) (NoTwo SameNumber (sectionsIn s))
 sections-ruled s =
-    let m = among s (many (bytes "sections") 1 12 sectionLine section-rule) sectionOf (λ above x. ¬ Some (SameNumber x) above)
+    let m = among s (sections .part) sectionOf (λ above x. ¬ Some (SameNumber x) above)
     (λ above row. rw (seen-own (bytes "section") s (filled sectionLine above)) (section-asks (map sectionOf above) (sectionOf row))) in
     record { to = λ r. no-two SameNumber (sectionsIn s) (m .to r); from = λ k. m .from (two-never SameNumber (sectionsIn s) k) }
 
@@ -84,7 +87,7 @@ module _ (columns : List Field) (s : Sheet) (ps : List Part) (e : Keyed ps s) (o
       ∙ ap (λ (x : List Row). looked row (all (bytes "sheet")) (all (bytes "stage")) (all (bytes "section")) x) (seen-own W s more)
 
   abbrev readings : Part
-  readings = many (bytes "walls") 0 48 (line "wall" columns) wall-rule
+  readings = many (bytes "walls") 0 wallsMost (line "wall" columns) wall-rule
 
   pub walls-ruled : Same (RuledAt s readings) (Readings s)
   walls-ruled =

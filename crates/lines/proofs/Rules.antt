@@ -20,7 +20,7 @@ use Rattle.sheet.specs.Firing.{Stage, Section, Wall}
 use Rattle.lines.specs.Schema.{Row, at, within}
 use Rattle.lines.specs.Reader.{Sheet}
 use Rattle.lines.specs.Quantities.{gasTotal}
-use Rattle.lines.specs.Document01.{alike, any, all, sumOf, weigh, airWeights, counted, isListed, isRead, when, _else_, material-rule, gas-rule, sectionFault, wallFault, wholeFault}
+use Rattle.lines.specs.Tests.{alike, any, all, sumOf, weigh, airWeights, counted, isListed, isRead, when, _else_, material-rule, gas-rule, sectionFault, wallFault, wholeFault}
 use Rattle.lines.specs.Rules.{Some, Every, MaterialKeeps, GasKeeps, SameNumber, Listed, Staged, SameReading, WallKeeps, IsRead, AllRead, TotalKeeps}
 use Rattle.lines.proofs.Cases.{clash, both}
 

@@ -3,6 +3,9 @@ pub mod Document
 pub mod Reader
 pub mod Quantities
 pub mod Rows
+pub mod Tests
+pub mod Entries
 pub mod Document01
+pub mod Editions
 pub mod Rules
 pub mod Limits

@@ -1,5 +1,5 @@
 -- What holds of a firing that keeps document 01's rules, by name: the form in which the formulas' proofs use them. Nothing here is believed:
--- `limits` derives it from the rules.
+-- `sheet-limits` derives it from the rules.
 use Prim.Native.Nat.{_≤_}
 use mathlib.Core.Path.{_≡_}
 use mathlib.Core.List.{List, map}
@@ -8,8 +8,8 @@ use lib.IntN.{ℤ, pos}
 use lib.Signed.{_≤ℤ_, _<ℤ_}
 use Rattle.sheet.specs.Firing.{Stuff, Gas, Ware, Water, Stage, Setter, Part, Section, Wall, Firing}
 use Rattle.lines.specs.Schema.{Field}
-use Rattle.lines.specs.Quantities.{product, ambient, heating, fuelTemperature, share, moisture, mass, temperature, material, capacity, flue, cubicMetres, excess, monoxide, minutes, sectionNumber, place, area, stageNumber, surface, nearAir, gasTotal}
-use Rattle.lines.specs.Document01.{sumOf, weigh, airWeights}
+use Rattle.lines.specs.Quantities.{product, ambient, heating, fuelTemperature, share, moisture, mass, temperature, material, capacity, flue, cubicMetres, excess, monoxide, minutes, sectionNumber, place, area, stageNumber, surface, nearAir, gasTotal, stagesMost, settersMost, partsMost, sectionsMost, wallsMost}
+use Rattle.lines.specs.Tests.{sumOf, weigh, airWeights}
 use Rattle.lines.specs.Rules.{Every, NoTwo, Listed, AllRead}
 use Rattle.lines.specs.Rows.{gasRow}
 
@@ -86,16 +86,16 @@ pub record Limits (f : Firing) : Type 0 where
   pub water : WaterIn (f .water)
   pub clay : In mass (f .clay)
   pub stages : Every StageIn (f .stages)
-  pub stagesMost : length (f .stages) ≤ 12
+  pub stagesMost : length (f .stages) ≤ stagesMost
   pub total : In gasTotal (sumOf (map (λ x. x .gas) (f .stages)))
   pub setters : Every SetterIn (f .setters)
-  pub settersMost : length (f .setters) ≤ 32
+  pub settersMost : length (f .setters) ≤ settersMost
   pub parts : Every PartIn (f .parts)
-  pub partsMost : length (f .parts) ≤ 32
+  pub partsMost : length (f .parts) ≤ partsMost
   pub sections : Every SectionIn (f .sections)
-  pub sectionsMost : length (f .sections) ≤ 12
+  pub sectionsMost : length (f .sections) ≤ sectionsMost
   pub walls : Every (WallIn f) (f .walls)
-  pub wallsMost : length (f .walls) ≤ 48
+  pub wallsMost : length (f .walls) ≤ wallsMost
   pub apart : Apart (f .walls)
 
 -- every section has a reading in every stage, which are numbered from 1

@@ -81,3 +81,19 @@ nearAir = minus 200 500
 
 abbrev pub gasTotal : Field
 gasTotal = to 100 200000
+
+-- how many lines a block has at most
+abbrev pub stagesMost : ℕ
+stagesMost = 12
+
+abbrev pub settersMost : ℕ
+settersMost = 32
+
+abbrev pub partsMost : ℕ
+partsMost = 32
+
+abbrev pub sectionsMost : ℕ
+sectionsMost = 12
+
+abbrev pub wallsMost : ℕ
+wallsMost = 48

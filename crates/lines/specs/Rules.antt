@@ -3,16 +3,15 @@ use Prim.Native.Nat.{ℕ, _+_, _≤_}
 use mathlib.Core.Path.{_≡_}
 use mathlib.Core.List.{List, [], _∷_, map}
 use mathlib.Core.Logic.{_⊎_}
-use mathlib.Core.Option.{none}
 use lib.ListN.{length}
 use lib.IntN.{ℤ, pos}
 use lib.Signed.{_≤ℤ_, _<ℤ_}
 use Rattle.text.specs.Bytes.{bytes}
 use Rattle.sheet.specs.Firing.{Stage, Section, Wall}
 use Rattle.lines.specs.Schema.{Row, at}
-use Rattle.lines.specs.Reader.{Sheet, rowsOf, Part, one, many, Document}
+use Rattle.lines.specs.Reader.{Sheet, rowsOf}
 use Rattle.lines.specs.Quantities.{gasTotal}
-use Rattle.lines.specs.Document01.{sumOf, weigh, airWeights, free, document01}
+use Rattle.lines.specs.Tests.{sumOf, weigh, airWeights}
 use Rattle.lines.specs.Rows.{stagesIn, sectionsIn, wallsIn}
 
 abbrev pub Some : {A : Type 0} → (A → Type 0) → List A → Type 0
@@ -82,11 +81,3 @@ pub record KeepsRules (sheet : Sheet) : Type 0 where
   pub read : AllRead (stagesIn sheet) (sectionsIn sheet) (wallsIn sheet)  -- 8
   pub warm : Every Warm (wallsIn sheet)  -- 9
   pub total : TotalKeeps (stagesIn sheet)  -- 10
-
--- the lines of document 01, with form and range only
-abbrev pub unruled : Part → Part
-unruled (one l rule) = one l free
-unruled (many key a b l rule) = many key a b l free
-
-abbrev pub form01 : Document
-form01 = record { first = document01 .first; below = λ seen. map unruled (document01 .below seen); whole = λ sheet. none }

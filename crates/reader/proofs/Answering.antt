@@ -16,10 +16,11 @@ use Rattle.sheet.specs.Shown.{Shows, stage}
 use Rattle.lines.specs.Schema.{on, within}
 use Rattle.lines.specs.Quantities.{gasTotal}
 use Rattle.lines.specs.Reader.{Sheet, Read, stopped, got, readLines, Answer, Refused, Good, judgedWhole, readOf}
-use Rattle.lines.specs.Document01.{all, counted, isRead, when, _else_, sumOf, document01}
+use Rattle.lines.specs.Tests.{all, counted, isRead, when, _else_, sumOf}
+use Rattle.lines.specs.Editions.{document}
 use Rattle.lines.specs.Rows.{stagesIn, sectionsIn, wallsIn, firingOf}
 use Rattle.lines.specs.Limits.{Limits}
-use Rattle.lines.proofs.Document01.{firing-limits}
+use Rattle.lines.proofs.Editions.{firing-limits}
 use Rattle.walls.specs.Walls.{allRead}
 use Rattle.walls.proofs.Document.{missing-is}
 use Rattle.entries.specs.declared.Place.{Place}
@@ -56,7 +57,7 @@ module _ {x : Sheetˢ} {sheet : Sheet} (h : Held x sheet) (z : Sized x) (q : Pla
   rules true false = refl
   rules false read = refl
 
-  whole-judged : Judged (on (document01 .whole sheet) (Good sheet) (λ r. Refused r 0)) (record { place = wholeAs q x; sheet = x })
+  whole-judged : Judged (on (document .whole sheet) (Good sheet) (λ r. Refused r 0)) (record { place = wholeAs q x; sheet = x })
   whole-judged =
       let gas = ap (within gasTotal) (gas-same h) in
       let read = read-same h z in
@@ -64,7 +65,7 @@ module _ {x : Sheetˢ} {sheet : Sheet} (h : Held x sheet) (z : Sized x) (q : Pla
 
 module _ (s : List ℕ) (q : Place) (x : Sheetˢ) (z : Sized x) where
   -- the rules of the whole sheet, after the lines
-  lines-judged : (r : Read Sheet) → Meets s r q (Held x) → Judged (judgedWhole document01 r) (record { place = verdictAs (length s) q x; sheet = x })
+  lines-judged : (r : Read Sheet) → Meets s r q (Held x) → Judged (judgedWhole document r) (record { place = verdictAs (length s) q x; sheet = x })
   lines-judged (stopped y n) m = rw (ap good m ∙ refused-bad y n) m
   lines-judged (got sheet n []) m =
       let e : length s ≤ q .at = omega (arith, length-drop (q .at) s, ap length (m .0 .left)) in
@@ -112,42 +113,42 @@ module _ (n : ℕ) (p : Place) (e : p ≡ openingAs n) where
   looked-none h f = let long = opened-long h in record { inside = omega arith; few = omega arith; whole = λ g. absurd (omega arith) }
 
 -- THE JUDGEMENT: t is what was looked at, all that a sheet of good length has
-module _ (s t : List ℕ) (all-of-it : length s ≤ 16384 → t ≡ s) (q : Place) (x : Sheetˢ) (after : After t (openingAs (length s)) (readLines document01) q (Held x)) (z : Sized x) where
+module _ (s t : List ℕ) (all-of-it : length s ≤ 16384 → t ≡ s) (q : Place) (x : Sheetˢ) (after : After t (openingAs (length s)) (readLines document) q (Held x)) (z : Sized x) where
   abbrev found : Lines
   found = record { place = verdictAs (length s) q x; sheet = x }
 
-  too-long : ltb 16384 (length s) ≡ true → Judged (readOf document01 s) found
+  too-long : ltb 16384 (length s) ≡ true → Judged (readOf document s) found
   unfolding readOf
   too-long e =
       let opened : openingAs (length s) ≡ refusedAt TooLong 0 = rw e in
       let ended : q ≡ refusedAt TooLong 0 = after .passes (ap good opened) ∙ opened in
       rw (e, ended) refl
 
-  of-good-length : ltb 16384 (length s) ≡ false → Judged (readOf document01 s) found
+  of-good-length : ltb 16384 (length s) ≡ false → Judged (readOf document s) found
   unfolding readOf
   of-good-length e =
       let opened : openingAs (length s) ≡ top = rw e in
       let same = all-of-it (ltb-false 16384 (length s) e) in
-      let m : Meets s (readLines document01 1 s) q (Held x) = subst (λ (u : List ℕ). Meets u (readLines document01 1 u) q (Held x)) same (subst (λ (p : Place). After t p (readLines document01) q (Held x)) opened after .reads refl) in
-      rw e (lines-judged s q x z (readLines document01 1 s) m)
+      let m : Meets s (readLines document 1 s) q (Held x) = subst (λ (u : List ℕ). Meets u (readLines document 1 u) q (Held x)) same (subst (λ (p : Place). After t p (readLines document) q (Held x)) opened after .reads refl) in
+      rw e (lines-judged s q x z (readLines document 1 s) m)
 
-  pub judgement : Judged (readOf document01 s) found
+  pub judgement : Judged (readOf document s) found
   judgement = here (ltb 16384 (length s)) refl
     where
-      here : (b : Bool) → ltb 16384 (length s) ≡ b → Judged (readOf document01 s) found
+      here : (b : Bool) → ltb 16384 (length s) ≡ b → Judged (readOf document s) found
       here true e = too-long e
       here false e = of-good-length e
 
 -- THE ANSWER from it
-pub answer-refused : (s : List ℕ) (r : Lines) → Judged (readOf document01 s) r → good (r .place) ≡ false → Answers (readOf document01 s) (rejectedAs (reason (r .place)) (r .place .line))
-answer-refused s r h e = here (readOf document01 s) h
+pub answer-refused : (s : List ℕ) (r : Lines) → Judged (readOf document s) r → good (r .place) ≡ false → Answers (readOf document s) (rejectedAs (reason (r .place)) (r .place .line))
+answer-refused s r h e = here (readOf document s) h
   where
     here : (a : Answer) → Judged a r → Answers a (rejectedAs (reason (r .place)) (r .place .line))
     here (Refused x n) k = ap (λ (p : Place). rejectedAs (reason p) (p .line)) k ∙ ap (λ (y : Refusal). rejectedAs y n) (refused-why x n)
     here (Good sheet) k = not-both (good (r .place)) (is-good (r .place) (k .0)) e
 
-pub answer-good : (s : List ℕ) (r : Lines) → Judged (readOf document01 s) r → good (r .place) ≡ true → Answers (readOf document01 s) (record { accepted = true; refusal = Accepted; line = 0; sheet = r .sheet })
-answer-good s r h e = here (readOf document01 s) h
+pub answer-good : (s : List ℕ) (r : Lines) → Judged (readOf document s) r → good (r .place) ≡ true → Answers (readOf document s) (record { accepted = true; refusal = Accepted; line = 0; sheet = r .sheet })
+answer-good s r h e = here (readOf document s) h
   where
     here : (a : Answer) → Judged a r → Answers a (record { accepted = true; refusal = Accepted; line = 0; sheet = r .sheet })
     here (Refused x n) k = not-both (good (r .place)) e (ap good k ∙ refused-bad x n)
@@ -156,21 +157,21 @@ answer-good s r h e = here (readOf document01 s) h
 -- AN ACCEPTED SHEET: its struct shows the firing of a sheet that was read, which keeps every rule
 pub record Firm (s : List ℕ) (x : Sheetˢ) : Type 0 where
   pub sheet : Sheet
-  pub good : readOf document01 s ≡ Good sheet
+  pub good : readOf document s ≡ Good sheet
   pub shows : Shows x (firingOf sheet)
 
-pub firm : (s : List ℕ) (r : Outcome) → Answers (readOf document01 s) r → r .accepted ≡ true → Firm s (r .sheet)
-firm s r h e = here (readOf document01 s) refl h
+pub firm : (s : List ℕ) (r : Outcome) → Answers (readOf document s) r → r .accepted ≡ true → Firm s (r .sheet)
+firm s r h e = here (readOf document s) refl h
   where
-    here : (a : Answer) → readOf document01 s ≡ a → Answers a r → Firm s (r .sheet)
+    here : (a : Answer) → readOf document s ≡ a → Answers a r → Firm s (r .sheet)
     here (Refused x n) g k = not-both (r .accepted) e (ap (λ (o : Outcome). o .accepted) k)
     here (Good sheet) g k = record { sheet = sheet; good = g; shows = k .3 }
 
 -- the same by the judgement
-pub firm-judged : (s : List ℕ) (r : Lines) → Judged (readOf document01 s) r → good (r .place) ≡ true → Firm s (r .sheet)
-firm-judged s r h e = here (readOf document01 s) refl h
+pub firm-judged : (s : List ℕ) (r : Lines) → Judged (readOf document s) r → good (r .place) ≡ true → Firm s (r .sheet)
+firm-judged s r h e = here (readOf document s) refl h
   where
-    here : (a : Answer) → readOf document01 s ≡ a → Judged a r → Firm s (r .sheet)
+    here : (a : Answer) → readOf document s ≡ a → Judged a r → Firm s (r .sheet)
     here (Refused x n) g k = not-both (good (r .place)) e (ap good k ∙ refused-bad x n)
     here (Good sheet) g k = record { sheet = sheet; good = g; shows = k .1 }
 
@@ -178,8 +179,8 @@ pub firm-limits : {s : List ℕ} {x : Sheetˢ} (a : Firm s x) → Limits (firing
 firm-limits {s} a = firing-limits s (a .sheet) (a .good)
 
 -- A REFUSED SHEET: document 01's refusal and line are those that the code finds
-pub refused-judged : (s : List ℕ) (r : Lines) → Judged (readOf document01 s) r → good (r .place) ≡ false → readOf document01 s ≡ Refused (reason (r .place)) (r .place .line)
-refused-judged s r h e = here (readOf document01 s) h
+pub refused-judged : (s : List ℕ) (r : Lines) → Judged (readOf document s) r → good (r .place) ≡ false → readOf document s ≡ Refused (reason (r .place)) (r .place .line)
+refused-judged s r h e = here (readOf document s) h
   where
     here : (a : Answer) → Judged a r → a ≡ Refused (reason (r .place)) (r .place .line)
     here (Refused x n) k = sym (ap (λ (p : Place). Refused (reason p) (p .line)) k ∙ ap (λ (y : Refusal). Refused y n) (refused-why x n))

@@ -13,7 +13,7 @@ use Rattle.sheet.specs.Shown.{Shows}
 use Rattle.lines.specs.Schema.{within}
 use Rattle.lines.specs.Quantities.{gasTotal}
 use Rattle.lines.specs.Reader.{Answer, Refused, Good}
-use Rattle.lines.specs.Document01.{sumOf}
+use Rattle.lines.specs.Tests.{sumOf}
 use Rattle.lines.specs.Rows.{firingOf}
 use Rattle.walls.specs.Walls.{allRead}
 use Rattle.entries.specs.declared.Place.{Place}

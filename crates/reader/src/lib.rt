@@ -9,7 +9,7 @@ use groups::all::Lines;
 use groups::all::all_lines;
 use sheet::Refusal;
 pub use whole::Outcome;
-ghost use Rattle.lines.specs.Document01.{document01};
+ghost use Rattle.lines.specs.Editions.{document};
 ghost use Rattle.lines.specs.Reader.{readOf};
 ghost use Rattle.reader.specs.Whole.{Judged, Answers};
 
@@ -17,7 +17,7 @@ ghost use Rattle.reader.specs.Whole.{Judged, Answers};
 // then is stays open. There is one way through it, so that the compiler need not keep a second sheet. Of a text that is too long nothing
 // is looked at.
 pub fn judged(s: &[u8]) -> Lines
-    ensures { λ r. ⌜ Judged (readOf document01 (now (s .entry))) r ⌝ }
+    ensures { λ r. ⌜ Judged (readOf document (now (s .entry))) r ⌝ }
 {
     let n = s.len();
     let start = opening(n);
@@ -30,7 +30,7 @@ pub fn judged(s: &[u8]) -> Lines
 
 // The firing that a sheet gives, or the first rule that it breaks and the line, 0 for the whole sheet; then the firing is blank.
 pub fn read(s: &[u8]) -> Outcome
-    ensures { λ r. ⌜ Answers (readOf document01 (now (s .entry))) r ⌝ }
+    ensures { λ r. ⌜ Answers (readOf document (now (s .entry))) r ⌝ }
 {
     let l = judged(s);
     let p = l.place;

@@ -3,7 +3,7 @@ ghost use Prim.Native.Nat.{_≤_};
 ghost use mathlib.Core.Path.{_≡_};
 ghost use mathlib.Core.List.{map};
 ghost use lib.ListN.{length, take};
-ghost use Rattle.lines.specs.Document01.{sumOf};
+ghost use Rattle.lines.specs.Tests.{sumOf};
 ghost use Rattle.lines.specs.Rules.{Every};
 ghost use Rattle.tiers.specs.Stages.{SmallGas};
 ghost use Rattle.entries.specs.Place.{refusedAt};

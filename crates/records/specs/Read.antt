@@ -5,9 +5,9 @@ use mathlib.Core.List.{List}
 use mathlib.Core.Option.{none}
 use lib.IntN.{pos, natAbs}
 use Rattle.sheet.specs.Shown.{stage}
-use Rattle.lines.specs.Schema.{Line}
+use Rattle.lines.specs.Schema.{Line, at}
 use Rattle.lines.specs.Reader.{readLine}
-use Rattle.lines.specs.Document01.{at, stageLine}
+use Rattle.lines.specs.Document01.{stageLine}
 use Rattle.lines.specs.Rows.{stageOf}
 use Rattle.entries.specs.declared.Place.{Place}
 use Rattle.entries.specs.Place.{After}

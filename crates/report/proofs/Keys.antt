@@ -10,7 +10,7 @@ use lib.ListN.{length, getD, take, drop, length-take, length-drop}
 use lib.Dec.{T, eqb, leb, leb→le, eqb→eq}
 use Rattle.text.specs.Bytes.{bytes}
 use Rattle.arith.proofs.Ring.{both-left, both-right}
-use Rattle.lines.specs.Document01.{sameKey}
+use Rattle.lines.specs.Reader.{sameKey}
 use Rattle.formulas.specs.Items.{shuttle, heats}
 use Rattle.formulas.specs.Report.{lines, keys}
 

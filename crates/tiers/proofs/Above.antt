@@ -4,8 +4,7 @@ use mathlib.Core.Path.{_≡_, refl}
 use mathlib.Core.Bool.{Bool, true, false, cond, not, _&&_}
 use mathlib.Core.List.{List, [], _∷_, _++_}
 use Rattle.lines.specs.Schema.{Line, Row}
-use Rattle.lines.specs.Reader.{Sheet, filled}
-use Rattle.lines.specs.Document01.{sameKey, rowsOf}
+use Rattle.lines.specs.Reader.{Sheet, filled, sameKey, rowsOf}
 use Rattle.lines.proofs.Forms.{same-key}
 use Rattle.lines.proofs.Cases.{clash}
 use Rattle.tiers.specs.Surface.{lacks}

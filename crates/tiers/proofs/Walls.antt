@@ -16,7 +16,8 @@ use Rattle.sheet.specs.Firing.{Section, Wall}
 use Rattle.sheet.specs.Shown.{before, cell, reading, laid, unread}
 use Rattle.text.specs.Bytes.{bytes}
 use Rattle.lines.specs.Schema.{Row}
-use Rattle.lines.specs.Document01.{when, wallLine, wall-rule}
+use Rattle.lines.specs.Tests.{when, wall-rule}
+use Rattle.lines.specs.Document01.{wallLine}
 use Rattle.lines.specs.Limits.{In}
 use Rattle.lines.specs.Quantities.{stageNumber}
 use Rattle.lines.specs.Reader.{Sheet, filled, readLine, readRows}

@@ -4,7 +4,8 @@ use mathlib.Core.List.{List, []}
 use lib.IntN.{natAbs}
 use Rattle.sheet.specs.declared.Stage.{Stage}
 use Rattle.sheet.specs.Shown.{stage}
-use Rattle.lines.specs.Document01.{free, stageLine}
+use Rattle.lines.specs.Tests.{free}
+use Rattle.lines.specs.Document01.{stageLine}
 use Rattle.lines.specs.Reader.{Sheet, readRows}
 use Rattle.lines.specs.Rows.{stageOf}
 use Rattle.lines.specs.Rules.{Every}

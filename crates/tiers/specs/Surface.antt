@@ -14,8 +14,9 @@ use Rattle.sheet.specs.Firing.{Section}
 use Rattle.sheet.specs.Shown.{section, before, laid, unread}
 use Rattle.text.specs.Bytes.{bytes}
 use Rattle.lines.specs.Schema.{Row}
-use Rattle.lines.specs.Reader.{Sheet, readLine, readRows}
-use Rattle.lines.specs.Document01.{when, sameKey, sectionLine, section-rule, wallLine, wall-rule}
+use Rattle.lines.specs.Reader.{Sheet, readLine, readRows, sameKey}
+use Rattle.lines.specs.Tests.{when, section-rule, wall-rule}
+use Rattle.lines.specs.Document01.{sectionLine, wallLine}
 use Rattle.lines.specs.Rules.{Every}
 use Rattle.lines.specs.Rows.{sectionOf, wallOf, stagesIn, sectionsIn}
 use Rattle.walls.specs.declared.Ruling.{Ruling}

@@ -2,7 +2,8 @@
 ghost use mathlib.Core.List.{[]};
 ghost use Prim.Native.Nat.{_≤_};
 ghost use Rattle.sheet.specs.Shown.{setter, part};
-ghost use Rattle.lines.specs.Document01.{material-rule, setterLine, partLine};
+ghost use Rattle.lines.specs.Tests.{material-rule};
+ghost use Rattle.lines.specs.Document01.{setterLine, partLine};
 ghost use Rattle.lines.specs.Reader.{Sheet, readRows};
 ghost use Rattle.lines.specs.Rows.{setterOf, partOf};
 ghost use Rattle.entries.specs.Place.{Ready, After};

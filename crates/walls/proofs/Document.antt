@@ -14,7 +14,7 @@ use Rattle.lines.specs.Reader.{Sheet}
 use Rattle.lines.specs.Quantities.{stageNumber}
 use Rattle.lines.specs.Limits.{In}
 use Rattle.lines.specs.Rules.{Every}
-use Rattle.lines.specs.Document01.{all, when, section-rule, wall-rule, isRead, counted}
+use Rattle.lines.specs.Tests.{all, when, section-rule, wall-rule, isRead, counted}
 use Rattle.lines.specs.Rows.{sectionOf, editionIn, stagesIn, sectionsIn, wallAs, wallsIn}
 use Rattle.walls.specs.Walls.{rulingOf, readAt, allRead}
 use Rattle.walls.proofs.Sections.{Distinct, before-is}

@@ -11,7 +11,7 @@ use Rattle.sheet.specs.declared.Reading.{Reading}
 use Rattle.sheet.specs.Firing.{Section, Wall}
 use Rattle.sheet.specs.Shown.{cell, unread, laid}
 use Rattle.lines.specs.Rules.{Every}
-use Rattle.lines.specs.Document01.{all, counted, isRead}
+use Rattle.lines.specs.Tests.{all, counted, isRead}
 use Rattle.walls.specs.Walls.{readAt, rowRead, allRead}
 use Rattle.walls.proofs.Sections.{Distinct, before-at}
 use Rattle.walls.proofs.Readings.{Placed, laid-read}

@@ -16,7 +16,7 @@ use Rattle.sheet.specs.Shown.{same, before, cell, reading, unread, wasRead, lai
 use Rattle.lines.specs.Quantities.{stageNumber}
 use Rattle.lines.specs.Limits.{In}
 use Rattle.lines.specs.Rules.{Every}
-use Rattle.lines.specs.Document01.{isRead}
+use Rattle.lines.specs.Tests.{isRead}
 use Rattle.walls.specs.Walls.{readAt}
 use Rattle.lines.proofs.Rules.{same-self, same-is}
 use Rattle.walls.proofs.Sections.{before-one}

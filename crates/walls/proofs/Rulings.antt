@@ -17,7 +17,7 @@ use Rattle.sheet.specs.Shown.{before, cell, unread, laid}
 use Rattle.lines.specs.Quantities.{stageNumber}
 use Rattle.lines.specs.Limits.{In}
 use Rattle.lines.specs.Rules.{Every}
-use Rattle.lines.specs.Document01.{when, _else_, isRead, wallFault}
+use Rattle.lines.specs.Tests.{when, _else_, isRead, wallFault}
 use Rattle.walls.specs.declared.Ruling.{Ruling}
 use Rattle.walls.specs.Walls.{rulingOf, readAt}
 use Rattle.walls.proofs.Sections.{before-is}

@@ -9,7 +9,7 @@ use Rattle.sheet.specs.declared.Sheet.{Sheet}
 use Rattle.sheet.specs.declared.Refusal.{Refusal}
 use Rattle.sheet.specs.Refusals.{number}
 use Rattle.lines.specs.Reader.{Refused, readOf}
-use Rattle.lines.specs.Document01.{document01}
+use Rattle.lines.specs.Editions.{document}
 use Rattle.lines.specs.Rows.{firingOf}
 use Rattle.lines.proofs.Numbering.{refuses}
 use Rattle.formulas.specs.Items.{shuttle}
@@ -35,7 +35,7 @@ firing c =
     firm-judged _ (j .result) (j .ensures) (is-good (j .result .place) (c .before .before .if1 .taken))
 
 -- what was refused
-abbrev refusal : (c : tie.Else1) → let r = c .before .before .before .judged .result in readOf document01 (c .before .before .before .before .before .before .args .sheet .now) ≡ Refused (reason (r .place)) (r .place .line)
+abbrev refusal : (c : tie.Else1) → let r = c .before .before .before .judged .result in readOf document (c .before .before .before .before .before .before .args .sheet .now) ≡ Refused (reason (r .place)) (r .place .line)
 refusal c =
     let j = c .before .before .before .judged in
     refused-judged _ (j .result) (j .ensures) (is-bad (j .result .place) (c .if1 .left))

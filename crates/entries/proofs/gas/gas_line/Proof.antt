@@ -8,7 +8,8 @@ use lib.IntN.{ℤ, pos}
 use lib.Signed.{ltZ}
 use Rattle.sheet.specs.declared.Refusal.the-variants.{Shares}
 use Rattle.sheet.specs.Shown.{same}
-use Rattle.lines.specs.Document01.{when, sumOf, weigh, airWeights, gasLine, gas-rule}
+use Rattle.lines.specs.Tests.{when, sumOf, weigh, airWeights, gas-rule}
+use Rattle.lines.specs.Document01.{gasLine}
 use Rattle.amounts.specs.Taking.{shares}
 use Rattle.entries.proofs.Places.{after-left}
 use Rattle.entries.proofs.Lines.{line-after, ruled-after}

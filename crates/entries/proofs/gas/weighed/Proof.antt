@@ -13,7 +13,7 @@ use Rattle.arith.proofs.Ring.{v, #, _⊕_, ring}
 use Rattle.arith.proofs.Order.{abs-add}
 use Rattle.arith.proofs.Machine.{Known, small, arg, from, _⟨+⟩_, _⟨*⟩_, fits, result, bound}
 use Rattle.quantity.specs.declared.gas.Share.{Share}
-use Rattle.lines.specs.Document01.{weigh}
+use Rattle.lines.specs.Tests.{weigh}
 use Rattle.lines.specs.Rules.{Every}
 use Rattle.amounts.specs.Taking.{shares}
 use Rattle.lines.proofs.Lists.{every-at}

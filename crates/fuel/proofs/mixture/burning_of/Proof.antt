@@ -8,7 +8,7 @@ use lib.IntN.{ℤ}
 use lib.ListN.{take}
 use Rattle.quantity.specs.declared.gas.Share.{Share}
 use Rattle.sheet.specs.Shown.{gas}
-use Rattle.lines.specs.Document01.{weigh}
+use Rattle.lines.specs.Tests.{weigh}
 use Rattle.lines.specs.Rows.{gasRow}
 use Rattle.fuel.proofs.Shares.{airs, dries, vapours, column-next, column-fits, weigh-size, air-is, dry-is, vapour-is}
 use Rattle.fuel.proofs.mixture.burning_of.Statement.{statement}

@@ -11,7 +11,7 @@ use lib.ListN.{take}
 use Rattle.arith.proofs.Order.{sfits-abs}
 use Rattle.quantity.specs.declared.gas.Share.{Share}
 use Rattle.sheet.specs.Shown.{gas}
-use Rattle.lines.specs.Document01.{weigh}
+use Rattle.lines.specs.Tests.{weigh}
 use Rattle.lines.specs.Rows.{gasRow}
 use Rattle.fuel.proofs.Shares.{colds, rises, column-next, column-size, column-fits, weigh-size, heat-is}
 use Rattle.fuel.proofs.mixture.warmth_of.Statement.{statement}

@@ -2,7 +2,8 @@
 use borrow.Author.Needs.{needs}
 use Rattle.text.specs.Bytes.{bytes}
 use Rattle.sheet.specs.Shown.{part}
-use Rattle.lines.specs.Document01.{material-rule, partLine}
+use Rattle.lines.specs.Tests.{material-rule}
+use Rattle.lines.specs.Document01.{partLine}
 use Rattle.lines.specs.Rows.{partOf}
 use Rattle.tiers.specs.Filling.{Filled}
 use Rattle.blank.specs.Blank.{blankPart}

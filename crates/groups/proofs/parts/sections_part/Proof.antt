@@ -1,7 +1,8 @@
 -- The count line, then so many lines. Assumes nothing.
 use borrow.Author.Needs.{needs}
 use Rattle.text.specs.Bytes.{bytes}
-use Rattle.lines.specs.Document01.{section-rule, sectionLine}
+use Rattle.lines.specs.Tests.{section-rule}
+use Rattle.lines.specs.Document01.{sectionLine}
 use Rattle.tiers.specs.Surface.{SectionsShown}
 use Rattle.tiers.proofs.Sequence.{count-after, many-after}
 use Rattle.groups.proofs.parts.sections_part.Statement.{statement}

@@ -2,7 +2,8 @@
 use borrow.Author.Needs.{needs}
 use Rattle.text.specs.Bytes.{bytes}
 use Rattle.sheet.specs.Shown.{setter}
-use Rattle.lines.specs.Document01.{material-rule, setterLine}
+use Rattle.lines.specs.Tests.{material-rule}
+use Rattle.lines.specs.Document01.{setterLine}
 use Rattle.lines.specs.Rows.{setterOf}
 use Rattle.tiers.specs.Filling.{Filled}
 use Rattle.blank.specs.Blank.{blankSetter}

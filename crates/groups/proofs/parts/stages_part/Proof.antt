@@ -2,7 +2,8 @@
 use borrow.Author.Needs.{needs}
 use Rattle.text.specs.Bytes.{bytes}
 use Rattle.sheet.specs.Shown.{stage}
-use Rattle.lines.specs.Document01.{free, stageLine}
+use Rattle.lines.specs.Tests.{free}
+use Rattle.lines.specs.Document01.{stageLine}
 use Rattle.lines.specs.Rows.{stageOf}
 use Rattle.tiers.specs.Filling.{Filled}
 use Rattle.blank.specs.Blank.{blankStage}

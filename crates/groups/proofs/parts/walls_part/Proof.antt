@@ -4,7 +4,8 @@ use borrow.Author.Needs.{needs}
 use lib.ListN.{take}
 use Rattle.text.specs.Bytes.{bytes}
 use Rattle.sheet.specs.Shown.{section}
-use Rattle.lines.specs.Document01.{wall-rule, wallLine}
+use Rattle.lines.specs.Tests.{wall-rule}
+use Rattle.lines.specs.Document01.{wallLine}
 use Rattle.tiers.specs.Surface.{WallsShown}
 use Rattle.tiers.proofs.Sequence.{count-after, many-after}
 use Rattle.groups.proofs.parts.walls_part.Statement.{statement}

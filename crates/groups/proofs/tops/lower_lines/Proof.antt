@@ -3,7 +3,8 @@ use mathlib.Core.Path.{refl}
 use mathlib.Core.List.{[], _∷_, _++_}
 use borrow.Author.Needs.{needs}
 use Rattle.lines.specs.Reader.{Sheet, one, filled}
-use Rattle.lines.specs.Document01.{free, material-rule, airLine, wareLine, waterLine, clayLine}
+use Rattle.lines.specs.Tests.{free, material-rule}
+use Rattle.lines.specs.Document01.{airLine, wareLine, waterLine, clayLine}
 use Rattle.groups.specs.Tops.{LowerShown}
 use Rattle.tiers.proofs.Sequence.{pass-on, then-line, parts-done}
 use Rattle.groups.proofs.tops.lower_lines.Statement.{statement}

@@ -3,7 +3,8 @@ use mathlib.Core.Path.{refl}
 use mathlib.Core.List.{[], _∷_, _++_}
 use borrow.Author.Needs.{needs}
 use Rattle.lines.specs.Reader.{Sheet, one, filled}
-use Rattle.lines.specs.Document01.{free, gas-rule, firingLine, productLine, ambientLine, fuelLine, gasLine}
+use Rattle.lines.specs.Tests.{free, gas-rule}
+use Rattle.lines.specs.Document01.{firingLine, productLine, ambientLine, fuelLine, gasLine}
 use Rattle.groups.specs.Tops.{UpperShown}
 use Rattle.tiers.proofs.Sequence.{pass-on, then-line, parts-done}
 use Rattle.groups.proofs.tops.upper_lines.Statement.{statement}

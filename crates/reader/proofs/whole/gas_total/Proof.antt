@@ -10,7 +10,7 @@ use mir.Syntax.{w32, w64}
 use Rattle.arith.proofs.Order.{abs-add}
 use Rattle.arith.proofs.Machine.{Known, small, arg, from, _⟨+⟩_, fits, result}
 use Rattle.sheet.specs.declared.Stage.{Stage}
-use Rattle.lines.specs.Document01.{sumOf}
+use Rattle.lines.specs.Tests.{sumOf}
 use Rattle.tiers.specs.Stages.{SmallGas}
 use Rattle.lines.proofs.Lists.{every-at}
 use Rattle.reader.proofs.Totals.{gas-more}

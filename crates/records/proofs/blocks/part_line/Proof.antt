@@ -7,7 +7,8 @@ use Rattle.sheet.specs.declared.Refusal.the-variants.{Material}
 use Rattle.sheet.specs.Firing.{Part}
 use Rattle.sheet.specs.Shown.{part}
 use Rattle.lines.specs.Schema.{plain}
-use Rattle.lines.specs.Document01.{partLine, when, material-rule}
+use Rattle.lines.specs.Tests.{when, material-rule}
+use Rattle.lines.specs.Document01.{partLine}
 use Rattle.lines.specs.Rows.{partOf}
 use Rattle.amounts.specs.Taking.{unsuited}
 use Rattle.entries.proofs.Places.{after-left}

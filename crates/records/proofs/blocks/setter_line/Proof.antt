@@ -7,7 +7,8 @@ use Rattle.sheet.specs.declared.Refusal.the-variants.{Material}
 use Rattle.sheet.specs.Firing.{Setter}
 use Rattle.sheet.specs.Shown.{setter}
 use Rattle.lines.specs.Schema.{plain}
-use Rattle.lines.specs.Document01.{setterLine, when, material-rule}
+use Rattle.lines.specs.Tests.{when, material-rule}
+use Rattle.lines.specs.Document01.{setterLine}
 use Rattle.lines.specs.Rows.{setterOf}
 use Rattle.amounts.specs.Taking.{unsuited}
 use Rattle.entries.proofs.Places.{after-left}

@@ -7,7 +7,8 @@ use Rattle.sheet.specs.declared.Refusal.the-variants.{Material}
 use Rattle.sheet.specs.Firing.{Ware}
 use Rattle.sheet.specs.Shown.{ware}
 use Rattle.lines.specs.Schema.{plain}
-use Rattle.lines.specs.Document01.{wareLine, when, material-rule}
+use Rattle.lines.specs.Tests.{when, material-rule}
+use Rattle.lines.specs.Document01.{wareLine}
 use Rattle.lines.specs.Rows.{wareOf}
 use Rattle.amounts.specs.Taking.{unsuited}
 use Rattle.entries.proofs.Places.{after-left}

@@ -6,7 +6,8 @@ use native.Mathlib.Omega.{arith}
 use borrow.Author.Needs.{needs}
 use lib.ListN.{length, length-set}
 use Rattle.sheet.specs.Shown.{part}
-use Rattle.lines.specs.Document01.{material-rule, partLine}
+use Rattle.lines.specs.Tests.{material-rule}
+use Rattle.lines.specs.Document01.{partLine}
 use Rattle.lines.specs.Reader.{Sheet, readRows}
 use Rattle.lines.specs.Rows.{partOf}
 use Rattle.entries.specs.Place.{Ready, After}

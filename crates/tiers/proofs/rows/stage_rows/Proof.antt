@@ -6,7 +6,8 @@ use native.Mathlib.Omega.{arith}
 use borrow.Author.Needs.{needs}
 use lib.ListN.{length, length-set}
 use Rattle.sheet.specs.Shown.{stage}
-use Rattle.lines.specs.Document01.{free, stageLine}
+use Rattle.lines.specs.Tests.{free}
+use Rattle.lines.specs.Document01.{stageLine}
 use Rattle.lines.specs.Reader.{Sheet, readRows}
 use Rattle.lines.specs.Rows.{stageOf}
 use Rattle.entries.specs.Place.{Ready, After}

@@ -11,7 +11,8 @@ use Rattle.sheet.specs.declared.Refusal.the-variants.{SectionTwice}
 use Rattle.sheet.specs.declared.Section.{Section as Sectionˢ}
 use Rattle.sheet.specs.Firing.{Section}
 use Rattle.sheet.specs.Shown.{section, before}
-use Rattle.lines.specs.Document01.{when, sectionLine}
+use Rattle.lines.specs.Tests.{when}
+use Rattle.lines.specs.Document01.{sectionLine}
 use Rattle.lines.specs.Rows.{sectionOf}
 use Rattle.walls.proofs.Sections.{numbers-length, place-among}
 use Rattle.tiers.specs.Surface.{twice}

@@ -16,7 +16,8 @@ use Rattle.sheet.specs.Firing.{Section}
 use Rattle.sheet.specs.Shown.{section, before}
 use Rattle.text.specs.Bytes.{bytes}
 use Rattle.lines.specs.Schema.{Row}
-use Rattle.lines.specs.Document01.{when, sectionLine, section-rule, isListed}
+use Rattle.lines.specs.Tests.{when, section-rule, isListed}
+use Rattle.lines.specs.Document01.{sectionLine}
 use Rattle.lines.specs.Reader.{Sheet, filled, readLine, readRows}
 use Rattle.lines.specs.Rows.{sectionOf}
 use Rattle.lines.proofs.Cases.{clash}

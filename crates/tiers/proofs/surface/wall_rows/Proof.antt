@@ -14,7 +14,8 @@ use Rattle.sheet.specs.declared.Reading.{Reading}
 use Rattle.sheet.specs.declared.Section.{Section as Sectionˢ}
 use Rattle.sheet.specs.Firing.{Section}
 use Rattle.sheet.specs.Shown.{section, before, cell, reading, laid, unread}
-use Rattle.lines.specs.Document01.{wallLine, wall-rule}
+use Rattle.lines.specs.Tests.{wall-rule}
+use Rattle.lines.specs.Document01.{wallLine}
 use Rattle.walls.specs.declared.Ruling.{Ruling}
 use Rattle.walls.specs.Walls.{numbers, rulingOf, readAt}
 use Rattle.walls.proofs.Sections.{numbers-length, place-among, place-most}
