@@ -1,204 +1,173 @@
--- From the rows of all lines to the struct that shows them. Assumes nothing.
+-- From what all lines say to the struct that shows it. Assumes nothing.
 use Prim.Native.Nat.{ℕ}
 use mathlib.Core.Path.{_≡_, refl, sym, ap, _∙_, subst}
 use mathlib.Core.Bool.{true, false}
 use mathlib.Core.List.{List, [], _∷_, _++_, map}
 use mathlib.Core.Option.{none}
 use lib.IntN.{ℤ, pos}
-use lib.ListN.{take, replicate, length-replicate, length-map}
+use lib.ListN.{length, replicate, length-map}
+use Rattle.text.specs.Bytes.{bytes}
 use Rattle.quantity.specs.declared.gas.Share.{Share}
 use Rattle.sheet.specs.declared.Sheet.{Sheet as Sheetˢ}
 use Rattle.sheet.specs.Firing.{Section}
 use Rattle.sheet.specs.Shown.{gas, stage, setter, part, section, laid, unread}
 use Rattle.lines.specs.Schema.{Row, plain, at}
-use Rattle.lines.specs.Reader.{Sheet, Part, one, filled, readLine, readPart, readParts, readLines}
+use Rattle.lines.specs.Reader.{Sheet, rowsOf, one, filled, readLine, readPart, readParts, readLines}
+use Rattle.lines.specs.Rules.{Every}
+use Rattle.lines.specs.Rows.{gasOf, stageOf, setterOf, partOf, sectionOf, wallOf, first, editionIn, stageAs}
 use Rattle.lines.specs.Tests.{free}
 use Rattle.lines.specs.Entries.{partsOf}
-use Rattle.lines.specs.Document01.{sheetLine, firingLine, productLine, ambientLine, fuelLine, gasLine, airLine, wareLine, waterLine, clayLine, stageLine, setterLine, partLine, sectionLine, wallLine, endLine}
-use Rattle.lines.specs.Editions.{entriesOf, document}
-use Rattle.lines.specs.Rows.{gasOf, stageOf, setterOf, partOf, sectionRow, sectionOf, wallOf, editionIn}
-use Rattle.lines.specs.Rules.{Every}
+use Rattle.lines.specs.Document01.{sheetLine, endLine, heading, fuelling, drying, staging, loading, surfaces, ending}
+use Rattle.lines.specs.Editions.{entriesOf, linesOf, document}
 use Rattle.walls.proofs.Readings.{Placed}
-use Rattle.entries.specs.declared.Place.{Place}
-use Rattle.records.specs.declared.head.EditionLine.{EditionLine}
-use Rattle.records.specs.declared.head.ClosingLine.{ClosingLine}
-use Rattle.groups.specs.declared.tops.Upper.{Upper}
-use Rattle.groups.specs.declared.tops.Lower.{Lower}
-use Rattle.groups.specs.declared.parts.StagesPart.{StagesPart}
-use Rattle.groups.specs.declared.parts.SettersPart.{SettersPart}
-use Rattle.groups.specs.declared.parts.PartsPart.{PartsPart}
-use Rattle.groups.specs.declared.parts.SectionsPart.{SectionsPart}
-use Rattle.tiers.specs.declared.surface.WallRows.{WallRows}
-use Rattle.entries.specs.Place.{good, Fair, After}
-use Rattle.tiers.specs.Filling.{Filled}
 use Rattle.blank.specs.Blank.{blankStage, blankSetter, blankPart, blankSection}
 use Rattle.amounts.specs.Taking.{shares}
-use Rattle.groups.specs.Tops.{upperParts, lowerParts, UpperShown, LowerShown}
-use Rattle.tiers.specs.Surface.{SectionsShown, WallsShown}
-use Rattle.groups.specs.Blocks.{stagesOf01, settersOf01, partsOf01, sectionsOf01, wallsOf01, StagesRead, SettersRead, PartsRead, SectionsRead, WallsRead}
-use Rattle.groups.specs.All.{headOf, Held}
-use Rattle.entries.proofs.Places.{after-bind}
+use Rattle.entries.specs.declared.Place.{Place}
+use Rattle.entries.specs.Place.{good, After}
+use Rattle.entries.proofs.Places.{after-bind, after-weaker}
+use Rattle.records.specs.declared.head.EditionLine.{EditionLine}
+use Rattle.records.specs.declared.head.ClosingLine.{ClosingLine}
 use Rattle.tiers.proofs.Fills.{filled-most}
-use Rattle.tiers.proofs.Sequence.{pass-on, then-line, then-part, then-parts, parts-done, one-after}
+use Rattle.tiers.proofs.Sequence.{pass-on, one-after}
+use Rattle.groups.specs.declared.tops.Heading.{Heading}
+use Rattle.groups.specs.declared.tops.Fuelling.{Fuelling}
+use Rattle.groups.specs.declared.tops.Drying.{Drying}
+use Rattle.groups.specs.declared.parts.Staging.{Staging}
+use Rattle.groups.specs.declared.parts.Loading.{Loading}
+use Rattle.groups.specs.declared.parts.Surfaces.{Surfaces}
+use Rattle.groups.specs.Said.{Saying, says, Said, GroupRead}
+use Rattle.groups.specs.Tops.{headingSays, fuellingSays, dryingSays}
+use Rattle.groups.specs.Blocks.{stagingSays, StagesRead, loadingSays, surfacesSay, Below, SurfacesRead}
+use Rattle.groups.specs.All.{headOf, Held}
+use Rattle.groups.proofs.Said.{none-read, line-then, group-then, _then_, lacks-kept}
 
--- ---- walls: a sheet that has the sections and the number of stages asked for can always be had
-abbrev some-sheet : List Section → ℕ → Sheet
-some-sheet S k = filled sectionLine (map sectionRow S) ++ filled stageLine (replicate k (plain []))
-
-rows-back : (S : List Section) → map sectionOf (map sectionRow S) ≡ S
-rows-back [] = refl
-rows-back (x ∷ S) = ap (λ (l : List Section). x ∷ l) (rows-back S)
-
-pub record Passes (s : List ℕ) (p q : Place) : Type 0 where
-  pub passes : good p ≡ false → q ≡ p
-  pub fair : good q ≡ true → Fair s q
-
-pub walls-pass : (s : List ℕ) (p : Place) (S : List Section) (k : ℕ) (r : WallRows) → WallsRead s p S k r → Passes s p (r .place)
-walls-pass s p S k r h =
-    let a = h (some-sheet S k) refl (rows-back S) (length-map (replicate k (plain [])) stageOf ∙ length-replicate k (plain [])) in
-    record { passes = a .passes; fair = a .fair }
-
--- ---- the struct and the rows
 gas-is : (l : List Share) (r : Row) → shares l ≡ r .numbers → gasOf r ≡ gas l
 gas-is l r e = ap (λ (zs : List ℤ). gasOf (plain zs)) (sym e)
 
-abbrev sheetFrom : EditionLine → Upper → Lower → StagesPart → SettersPart → PartsPart → SectionsPart → WallRows → Sheetˢ
-sheetFrom e u l a b c d w = record { head = headOf (e .edition) u l; stages = a .stages; setters = b .setters; parts = c .parts; sections = d .sections; readings = w .readings }
-
-module _ (e : EditionLine) (u : Upper) (l : Lower) (a : StagesPart) (b : SettersPart) (c : PartsPart) (d : SectionsPart) (w : WallRows) where
-  abbrev S : List Section
-  S = map section (take (d .sections .count .0) (d .sections .lines))
-
-  -- the rows above the stages
-  abbrev topRows : (edition : Row) {seen seen′ s₁ s₂ : Sheet} → UpperShown u seen s₁ → LowerShown l seen′ s₂ → Sheet
-  topRows edition hu hl =
-      record { key = sheetLine .key; rows = edition ∷ [] }
-      ∷ record { key = firingLine .key; rows = hu .firingRow ∷ [] }
-      ∷ record { key = productLine .key; rows = hu .productRow ∷ [] }
-      ∷ record { key = ambientLine .key; rows = hu .ambientRow ∷ [] }
-      ∷ record { key = fuelLine .key; rows = hu .fuelRow ∷ [] }
-      ∷ record { key = gasLine .key; rows = hu .gasRow ∷ [] }
-      ∷ record { key = airLine .key; rows = hl .moistureRow ∷ [] }
-      ∷ record { key = wareLine .key; rows = hl .wareRow ∷ [] }
-      ∷ record { key = waterLine .key; rows = hl .waterRow ∷ [] }
-      ∷ record { key = clayLine .key; rows = hl .clayRow ∷ [] }
-      ∷ []
-
-  top-rows : (edition : Row) {s₁ s₂ : Sheet} (hu : UpperShown u (filled sheetLine (edition ∷ [])) s₁) (hl : LowerShown l s₁ s₂) → s₂ ≡ topRows edition hu hl
-  top-rows edition hu hl =
-      hl .whole
-      ∙ ap (λ (x : Sheet). (((x ++ filled airLine (hl .moistureRow ∷ [])) ++ filled wareLine (hl .wareRow ∷ [])) ++ filled waterLine (hl .waterRow ∷ [])) ++ filled clayLine (hl .clayRow ∷ [])) (hu .whole)
-
-  -- all rows make the struct
-  held : (edition end : Row) → pos (e .edition .0) ≡ at edition 0 → {seen seen′ s₁ s₂ : Sheet} (hu : UpperShown u seen s₁) (hl : LowerShown l seen′ s₂) (st se pa sc wa : List Row)
-      → Filled stage stageOf blankStage 12 (a .stages .count .0) (a .stages .lines) st
-      → Filled setter setterOf blankSetter 32 (b .setters .count .0) (b .setters .lines) se
-      → Filled part partOf blankPart 32 (c .parts .count .0) (c .parts .lines) pa
-      → SectionsShown (d .sections .count .0) (d .sections .lines) sc
-      → WallsShown S (w .readings) wa
-      → Held (sheetFrom e u l a b c d w)
-      ((((((topRows edition hu hl ++ filled stageLine st) ++ filled setterLine se) ++ filled partLine pa) ++ filled sectionLine sc) ++ filled wallLine wa) ++ filled endLine (end ∷ []))
-  held edition end is hu hl st se pa sc wa fa fb fc fd fw = record {
-    shows = record {
-      lines = λ i. record {
-        edition = sym is i;
-        number = sym (hu .firingIs) i;
-        product = sym (hu .productIs) i;
-        ambient = sym (hu .ambientIs) i;
-        fuel = sym (hu .fuelIs) i;
-        gas = gas-is (u .gas) (hu .gasRow) (hu .gasIs) i;
-        moisture = sym (hl .moistureIs) i;
-        ware = sym (hl .wareIs) i;
-        water = sym (hl .waterIs) i;
-        clay = sym (hl .clayIs) i;
-        stages = sym (fa .shown) i;
-        setters = sym (fb .shown) i;
-        parts = sym (fc .shown) i;
-        sections = sym (fd .filled .shown) i;
-        walls = map wallOf wa;
-      };
-      readings = fw .lie ∙ ap (λ (x : List Section). laid x (replicate 144 unread) (map wallOf wa)) (fd .filled .shown);
-    };
-    trimmed = record {
-      stages = fa .rest;
-      setters = fb .rest;
-      parts = fc .rest;
-      sections = fd .filled .rest;
-      stagesFit = filled-most stage stageOf blankStage 12 fa;
-      settersFit = filled-most setter setterOf blankSetter 32 fb;
-      partsFit = filled-most part partOf blankPart 32 fc;
-      sectionsFit = filled-most section sectionOf blankSection 12 (fd .filled);
-    };
-    stagesAre = length-map st stageOf ∙ fa .count;
-    sectionsAre = length-map sc sectionOf ∙ fd .filled .count;
-    distinct = fd .distinct;
-    placed = subst (λ (x : List Section). Every (Placed x) (map wallOf wa)) (fd .filled .shown) (fw .placed);
+module _ (e : EditionLine) (h : Heading) (f : Fuelling) (d : Drying) (a : Staging) (b : Loading) (c : Surfaces) where
+  abbrev sheetFrom : Sheetˢ
+  sheetFrom = record {
+    head = headOf (e .edition) h f d;
+    stages = a .stages;
+    setters = b .setters;
+    parts = b .parts;
+    sections = c .sections;
+    readings = c .readings;
   }
 
--- ---- line after line
-module _ (s : List ℕ) (start : Place) (e : EditionLine) (u : Upper) (l : Lower) (a : StagesPart) (b : SettersPart) (c : PartsPart) (d : SectionsPart) (w : WallRows) (z : ClosingLine) (Z : Row → Type 0)
+  -- what stands above the surfaces, and what is below it
+  abbrev aboveSays : List Saying
+  aboveSays = headingSays h ++ (fuellingSays f ++ (dryingSays d ++ (stagingSays a ++ loadingSays b)))
+
+  abbrev belowSays : (Row → Type 0) → List Saying
+  belowSays Z = surfacesSay c ++ (says endLine Z ∷ [])
+
+  below : (edition : Row) (sheet : Sheet) → Said aboveSays (filled sheetLine (edition ∷ [])) sheet → Below (a .stages .count .0) sheet
+  below edition sheet m =
+      let air = m .2 .2 .2 .2 .2 in
+      let stages = air .2 .2 .2 .2 in
+      let whole = stages .2 .2 .2 in
+      let top = filled sheetLine (edition ∷ []) in
+      record {
+        sections = lacks-kept (bytes "section") aboveSays top sheet refl m refl;
+        walls = lacks-kept (bytes "wall") aboveSays top sheet refl m refl;
+        stages =
+            length-map (rowsOf (bytes "stage") sheet) (stageAs (editionIn sheet))
+            ∙ ap (λ (x : Sheet). length (rowsOf (bytes "stage") x)) whole
+            ∙ stages .1 .count;
+      }
+
+  -- the struct shows what all lines say
+  held : (Z : Row → Type 0) (edition : Row) → pos (e .edition .0) ≡ at edition 0 → (sheet : Sheet)
+      → Said (aboveSays ++ belowSays Z) (filled sheetLine (edition ∷ [])) sheet → Held sheetFrom sheet
+  held Z edition is sheet firing =
+      let product = firing .2 in
+      let ambient = product .2 in
+      let fuel = ambient .2 in
+      let gas = fuel .2 in
+      let air = gas .2 in
+      let ware = air .2 in
+      let water = ware .2 in
+      let clay = water .2 in
+      let stages = clay .2 in
+      let setters = stages .2 in
+      let parts = setters .2 in
+      let sections = parts .2 in
+      let walls = sections .2 in
+      let whole = walls .2 .2 in
+      let shown = sections .1 .filled in
+      let W = map wallOf (walls .0) in
+      subst (λ (x : Sheet). Held sheetFrom x) (sym whole)
+      (record {
+        shows = record {
+          lines = λ i. record {
+            edition = sym is i;
+            number = sym (firing .1) i;
+            product = sym (product .1) i;
+            ambient = sym (ambient .1) i;
+            fuel = sym (fuel .1) i;
+            gas = gas-is (f .gas) (first (gas .0)) (gas .1) i;
+            moisture = sym (air .1) i;
+            ware = sym (ware .1) i;
+            water = sym (water .1) i;
+            clay = sym (clay .1) i;
+            stages = sym (stages .1 .shown) i;
+            setters = sym (setters .1 .shown) i;
+            parts = sym (parts .1 .shown) i;
+            sections = sym (shown .shown) i;
+            walls = W;
+          };
+          readings = walls .1 .lie ∙ ap (λ (x : List Section). laid x (replicate 144 unread) W) (shown .shown);
+        };
+        trimmed = record {
+          stages = stages .1 .rest;
+          setters = setters .1 .rest;
+          parts = parts .1 .rest;
+          sections = shown .rest;
+          stagesFit = filled-most stage stageOf blankStage 12 (stages .1);
+          settersFit = filled-most setter setterOf blankSetter 32 (setters .1);
+          partsFit = filled-most part partOf blankPart 32 (parts .1);
+          sectionsFit = filled-most section sectionOf blankSection 12 shown;
+        };
+        stagesAre = length-map (stages .0) stageOf ∙ stages .1 .count;
+        sectionsAre = length-map (sections .0) sectionOf ∙ shown .count;
+        distinct = sections .1 .distinct;
+        placed = subst (λ (x : List Section). Every (Placed x) W) (shown .shown) (walls .1 .placed);
+      })
+
+-- ---- group after group
+module _ (s : List ℕ) (start : Place) (e : EditionLine) (h : Heading) (f : Fuelling) (d : Drying) (a : Staging) (b : Loading) (c : Surfaces) (z : ClosingLine) (Z : Row → Type 0)
     (he : After s start (readLine sheetLine (λ row. none)) (e .place) (λ row. pos (e .edition .0) ≡ at row 0))
-    (hu : (seen : Sheet) → After s (e .place) (readParts upperParts seen) (u .place) (UpperShown u seen))
-    (hl : (seen : Sheet) → After s (u .place) (readParts lowerParts seen) (l .place) (LowerShown l seen))
-    (ha : StagesRead s (l .place) a) (hb : SettersRead s (a .place) b) (hc : PartsRead s (b .place) c) (hd : SectionsRead s (c .place) d)
-    (hw : WallsRead s (d .place) (S e u l a b c d w) (a .stages .count .0) w)
-    (hz : After s (w .place) (readLine endLine (λ row. none)) (z .place) Z) where
+    (hh : GroupRead s (e .place) (partsOf heading) (h .place) (headingSays h))
+    (hf : GroupRead s (h .place) (partsOf fuelling) (f .place) (fuellingSays f))
+    (hd : GroupRead s (f .place) (partsOf drying) (d .place) (dryingSays d))
+    (ha : StagesRead s (d .place) a)
+    (hb : GroupRead s (a .place) (partsOf loading) (b .place) (loadingSays b))
+    (hc : SurfacesRead s (b .place) (a .stages .count .0) c)
+    (hz : After s (c .place) (readLine endLine (λ row. none)) (z .place) Z) where
   abbrev Q : Sheet → Type 0
-  Q = Held (sheetFrom e u l a b c d w)
+  Q = Held (sheetFrom e h f d a b c)
 
-  g7 : good (w .place) ≡ false → z .place ≡ w .place
-  g7 = hz .passes
+  above : GroupRead s (e .place) (partsOf (heading ++ (fuelling ++ (drying ++ (staging ++ loading))))) (b .place) (aboveSays e h f d a b c)
+  above = hh then hf then hd then ha .after then hb
 
-  g6 : good (d .place) ≡ false → z .place ≡ d .place
-  g6 = pass-on (walls-pass s (d .place) _ _ w hw .passes) g7
-
-  g5 : good (c .place) ≡ false → z .place ≡ c .place
-  g5 = pass-on (hd .after [] refl .passes) g6
-
-  g4 : good (b .place) ≡ false → z .place ≡ b .place
-  g4 = pass-on (hc [] .passes) g5
-
-  g3 : good (a .place) ≡ false → z .place ≡ a .place
-  g3 = pass-on (hb [] .passes) g4
-
-  g2 : good (l .place) ≡ false → z .place ≡ l .place
-  g2 = pass-on (ha .after [] .passes) g3
-
-  g1 : good (u .place) ≡ false → z .place ≡ u .place
-  g1 = pass-on (hl [] .passes) g2
-
-  g0 : good (e .place) ≡ false → z .place ≡ e .place
-  g0 = pass-on (hu [] .passes) g1
-
-  -- the blocks and the last line, below rows that are known
-  blocks-after : (edition : Row) → pos (e .edition .0) ≡ at edition 0 → {seen seen′ s₁ s₂ : Sheet} (ku : UpperShown u seen s₁) (kl : LowerShown l seen′ s₂)
-      → After s (l .place) (readParts (stagesOf01 ∷ settersOf01 ∷ partsOf01 ∷ sectionsOf01 ∷ wallsOf01 ∷ one endLine free ∷ []) (topRows e u l a b c d w edition ku kl)) (z .place) Q
-  blocks-after edition is ku kl =
-      let f = hz .fair in
-      let t = topRows e u l a b c d w edition ku kl in
-      then-part s stagesOf01 stageLine (settersOf01 ∷ partsOf01 ∷ sectionsOf01 ∷ wallsOf01 ∷ one endLine free ∷ []) t Q (l .place) (a .place) (z .place) _ (ha .after t) (λ st fa.
-      (let t1 = t ++ filled stageLine st in
-      then-part s settersOf01 setterLine (partsOf01 ∷ sectionsOf01 ∷ wallsOf01 ∷ one endLine free ∷ []) t1 Q (a .place) (b .place) (z .place) _ (hb t1) (λ se fb.
-      (let t2 = t1 ++ filled setterLine se in
-      then-part s partsOf01 partLine (sectionsOf01 ∷ wallsOf01 ∷ one endLine free ∷ []) t2 Q (b .place) (c .place) (z .place) _ (hc t2) (λ pa fc.
-      (let t3 = t2 ++ filled partLine pa in
-      then-part s sectionsOf01 sectionLine (wallsOf01 ∷ one endLine free ∷ []) t3 Q (c .place) (d .place) (z .place) _ (hd .after t3 refl) (λ sc fd.
-      (let t4 = t3 ++ filled sectionLine sc in
-      then-part s wallsOf01 wallLine (one endLine free ∷ []) t4 Q (d .place) (w .place) (z .place) _ (hw t4 refl (sym (fd .filled .shown)) (length-map st stageOf ∙ fa .count)) (λ wa fw.
-      (let t5 = t4 ++ filled wallLine wa in
-      then-line s endLine free [] t5 Q (w .place) (z .place) (z .place) Z hz (λ end k. parts-done s (z .place) (t5 ++ filled endLine (end ∷ [])) Q (held e u l a b c d w edition end is ku kl st se pa sc wa fa fb fc fd fw) f) (λ h. refl) f)) g7 f)) g6 f)) g5 f)) g4 f)) g3 f
+  last : GroupRead s (c .place) (partsOf ending) (z .place) (says endLine Z ∷ [])
+  last = line-then endLine free Z (λ seen. hz) (none-read (hz .fair))
 
   -- ALL LINES
   pub lines-after : After s start (readLines document) (z .place) Q
   unfolding entriesOf
   lines-after =
-      let f = hz .fair in
-      let rest : List Part = stagesOf01 ∷ settersOf01 ∷ partsOf01 ∷ sectionsOf01 ∷ wallsOf01 ∷ one endLine free ∷ [] in
-      after-bind s start (e .place) (z .place) (readPart (one sheetLine free) []) (λ seen. readParts (partsOf (entriesOf (editionIn seen))) seen) _ Q (one-after s sheetLine free [] start (e .place) (λ row. pos (e .edition .0) ≡ at row 0) he)
+      let below-read = partsOf surfaces ++ partsOf ending in
+      after-bind s start (e .place) (z .place) (readPart (one sheetLine free) []) (λ seen. readParts (linesOf (editionIn seen)) seen) _ Q
+      (one-after s sheetLine free [] start (e .place) (λ row. pos (e .edition .0) ≡ at row 0) he)
       (λ t k.
       (let r = k .2 .0 in
-      let t0 = filled sheetLine (r ∷ []) in
-      subst (λ (x : Sheet). After s (e .place) (readParts (partsOf (entriesOf (editionIn x))) x) (z .place) Q) (sym (k .1 ∙ ap (λ (y : List Row). filled sheetLine y) (k .2 .1)))
-      (then-parts s upperParts (lowerParts ++ rest) t0 (e .place) (u .place) (z .place) (UpperShown u t0) Q (hu t0) (λ s₁ ku.
-      then-parts s lowerParts rest s₁ (u .place) (l .place) (z .place) (LowerShown l s₁) Q (hl s₁) (λ s₂ kl.
-      subst (λ (x : Sheet). After s (l .place) (readParts rest x) (z .place) Q) (sym (top-rows e u l a b c d w r ku kl)) (blocks-after r (k .2 .2) ku kl)) g2 f) g1 f))) g0 f
+      let top = filled sheetLine (r ∷ []) in
+      subst (λ (x : Sheet). After s (e .place) (readParts (linesOf (editionIn x)) x) (z .place) Q) (sym (k .1 ∙ ap (λ (y : List Row). filled sheetLine y) (k .2 .1)))
+      (after-weaker s (e .place) (z .place) _ (Said (aboveSays e h f d a b c ++ belowSays e h f d a b c Z) top) Q (held e h f d a b c Z r (k .2 .2))
+      (group-then (partsOf (heading ++ (fuelling ++ (drying ++ (staging ++ loading))))) below-read (aboveSays e h f d a b c) (belowSays e h f d a b c Z) top (above .after top)
+      (λ sheet m. group-then (partsOf surfaces) (partsOf ending) (surfacesSay c) (says endLine Z ∷ []) sheet (hc .after sheet (below e h f d a b c r sheet m))
+      (λ u n. last .after u) (last .passes) (last .fair))
+      (pass-on (hc .passes) (last .passes)) (last .fair)))))
+      (pass-on (above .passes) (pass-on (hc .passes) (last .passes))) (last .fair)

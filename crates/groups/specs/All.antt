@@ -14,15 +14,27 @@ use Rattle.lines.specs.Rules.{Every}
 use Rattle.walls.proofs.Sections.{Distinct}
 use Rattle.walls.proofs.Readings.{Placed}
 use Rattle.entries.specs.declared.Place.{Place}
-use Rattle.groups.specs.declared.tops.Upper.{Upper}
-use Rattle.groups.specs.declared.tops.Lower.{Lower}
+use Rattle.groups.specs.declared.tops.Heading.{Heading}
+use Rattle.groups.specs.declared.tops.Fuelling.{Fuelling}
+use Rattle.groups.specs.declared.tops.Drying.{Drying}
 use Rattle.groups.specs.declared.all.Lines.{Lines}
 use Rattle.entries.specs.Place.{After}
 use Rattle.tiers.specs.Stages.{SmallGas}
 use Rattle.blank.specs.Blank.{blankStage, blankSetter, blankPart, blankSection}
 
-abbrev pub headOf : Edition → Upper → Lower → Head
-headOf e u l = record { edition = e; firing = u .firing; product = u .product; ambient = u .ambient; fuel = u .fuel; gas = u .gas; moisture = l .moisture; ware = l .ware; water = l .water; clay = l .clay }
+abbrev pub headOf : Edition → Heading → Fuelling → Drying → Head
+headOf e h f d = record {
+  edition = e;
+  firing = h .firing;
+  product = h .product;
+  ambient = h .ambient;
+  fuel = f .fuel;
+  gas = f .gas;
+  moisture = d .moisture;
+  ware = d .ware;
+  water = d .water;
+  clay = d .clay;
+}
 
 -- the counts are within their arrays, beyond which nothing could be shown, and beyond their counts the blocks are blank
 pub record Trimmed (x : Sheetˢ) : Type 0 where

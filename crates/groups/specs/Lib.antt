@@ -1,3 +1,4 @@
+pub mod Said
 pub mod Tops
 pub mod Blocks
 pub mod All

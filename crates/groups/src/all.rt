@@ -2,15 +2,15 @@
 ghost use mathlib.Core.Path.{_≡_};
 ghost use Rattle.entries.specs.Place.{Ready};
 ghost use Rattle.groups.specs.All.{headOf, LinesRead};
-use crate::parts::parts_part;
-use crate::parts::sections_part;
-use crate::parts::setters_part;
-use crate::parts::stages_part;
-use crate::parts::walls_part;
-use crate::tops::Lower;
-use crate::tops::Upper;
-use crate::tops::lower_lines;
-use crate::tops::upper_lines;
+use crate::parts::loading_lines;
+use crate::parts::staging_lines;
+use crate::parts::surface_lines;
+use crate::tops::Drying;
+use crate::tops::Fuelling;
+use crate::tops::Heading;
+use crate::tops::drying_lines;
+use crate::tops::fuelling_lines;
+use crate::tops::heading_lines;
 use entries::Place;
 use quantity::sheet::Edition;
 use records::head::closing_line;
@@ -18,19 +18,19 @@ use records::head::edition_line;
 use sheet::Head;
 use sheet::Sheet;
 
-// The head of a sheet, from its first line and its two groups of lines.
-fn head_of(edition: Edition, u: Upper, l: Lower) -> Head
-    ensures { λ r. ⌜ r ≡ headOf edition u l ⌝ }
+// The head of a sheet, from its first line and the groups above the stages.
+fn head_of(edition: Edition, h: Heading, f: Fuelling, d: Drying) -> Head
+    ensures { λ r. ⌜ r ≡ headOf edition h f d ⌝ }
 {
-    let firing = u.firing;
-    let product = u.product;
-    let ambient = u.ambient;
-    let fuel = u.fuel;
-    let gas = u.gas;
-    let moisture = l.moisture;
-    let ware = l.ware;
-    let water = l.water;
-    let clay = l.clay;
+    let firing = h.firing;
+    let product = h.product;
+    let ambient = h.ambient;
+    let fuel = f.fuel;
+    let gas = f.gas;
+    let moisture = d.moisture;
+    let ware = d.ware;
+    let water = d.water;
+    let clay = d.clay;
     Head {
         edition,
         firing,
@@ -51,28 +51,27 @@ pub struct Lines {
     pub sheet: Sheet,
 }
 
-// All lines, from `sheet` to `end`; a refused place passes through.
+// All lines, from `sheet` to `end`, group by group; a refused place passes through.
 pub fn all_lines(s: &[u8], start: Place) -> Lines
     requires { ⌜ Ready (now s) start ⌝ }
     ensures { λ r. ⌜ LinesRead (now (s .entry)) start r ⌝ }
 {
-    let edition = edition_line(s, start);
-    let upper = upper_lines(s, edition.place);
-    let lower = lower_lines(s, upper.place);
-    let a = stages_part(s, lower.place);
-    let b = setters_part(s, a.place);
-    let c = parts_part(s, b.place);
-    let d = sections_part(s, c.place);
-    let w = walls_part(s, d.place, d.sections, a.stages.count.0);
-    let closing = closing_line(s, w.place);
-    let number = edition.edition;
-    let head = head_of(number, upper, lower);
+    let first = edition_line(s, start);
+    let heading = heading_lines(s, first.place);
+    let fuelling = fuelling_lines(s, heading.place);
+    let drying = drying_lines(s, fuelling.place);
+    let staging = staging_lines(s, drying.place);
+    let loading = loading_lines(s, staging.place);
+    let surfaces = surface_lines(s, loading.place, staging.stages.count.0);
+    let closing = closing_line(s, surfaces.place);
+    let edition = first.edition;
+    let head = head_of(edition, heading, fuelling, drying);
     let place = closing.place;
-    let stages = a.stages;
-    let setters = b.setters;
-    let parts = c.parts;
-    let sections = d.sections;
-    let readings = w.readings;
+    let stages = staging.stages;
+    let setters = loading.setters;
+    let parts = loading.parts;
+    let sections = surfaces.sections;
+    let readings = surfaces.readings;
     Lines {
         place,
         sheet: Sheet {

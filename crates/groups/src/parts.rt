@@ -1,10 +1,13 @@
-// The blocks: a count line, and the lines that it announces.
+// The blocks, a count line and the lines that it announces, and the groups in which they stand.
 ghost use Prim.Native.Nat.{_≤_};
 ghost use mathlib.Core.List.{map};
 ghost use lib.ListN.{take};
 ghost use Rattle.sheet.specs.Shown.{section};
 ghost use Rattle.entries.specs.Place.{Ready};
-ghost use Rattle.groups.specs.Blocks.{StagesRead, SettersRead, PartsRead, SectionsRead, WallsRead};
+ghost use Rattle.lines.specs.Entries.{partsOf};
+ghost use Rattle.lines.specs.Document01.{loading};
+ghost use Rattle.groups.specs.Said.{GroupRead};
+ghost use Rattle.groups.specs.Blocks.{StagesRead, SettersRead, PartsRead, SectionsRead, WallsRead, loadingSays, SurfacesRead};
 use entries::Place;
 use records::blocks::part_count;
 use records::blocks::section_count;
@@ -12,6 +15,7 @@ use records::blocks::setter_count;
 use records::blocks::stage_count;
 use records::blocks::wall_count;
 use sheet::Parts;
+use sheet::Reading;
 use sheet::Sections;
 use sheet::Setters;
 use sheet::Stages;
@@ -22,13 +26,13 @@ use tiers::surface::WallRows;
 use tiers::surface::section_rows;
 use tiers::surface::wall_rows;
 
-pub struct StagesPart {
+pub struct Staging {
     pub place: Place,
     pub stages: Stages,
 }
 
 // The line `stages` and its lines `stage`.
-pub fn stages_part(s: &[u8], p: Place) -> StagesPart
+pub fn staging_lines(s: &[u8], p: Place) -> Staging
     requires { ⌜ Ready (now s) p ⌝ }
     ensures { λ r. ⌜ StagesRead (now (s .entry)) p r ⌝ }
 {
@@ -38,7 +42,7 @@ pub fn stages_part(s: &[u8], p: Place) -> StagesPart
     let l = stage_rows(s, q, count.0);
     let lines = l.lines;
     let place = l.place;
-    StagesPart {
+    Staging {
         place,
         stages: Stages { count, lines },
     }
@@ -50,7 +54,7 @@ pub struct SettersPart {
 }
 
 // The line `setters` and its lines `setter`.
-pub fn setters_part(s: &[u8], p: Place) -> SettersPart
+fn setters_part(s: &[u8], p: Place) -> SettersPart
     requires { ⌜ Ready (now s) p ⌝ }
     ensures { λ r. ⌜ SettersRead (now (s .entry)) p r ⌝ }
 {
@@ -72,7 +76,7 @@ pub struct PartsPart {
 }
 
 // The line `parts` and its lines `part`.
-pub fn parts_part(s: &[u8], p: Place) -> PartsPart
+fn parts_part(s: &[u8], p: Place) -> PartsPart
     requires { ⌜ Ready (now s) p ⌝ }
     ensures { λ r. ⌜ PartsRead (now (s .entry)) p r ⌝ }
 {
@@ -94,7 +98,7 @@ pub struct SectionsPart {
 }
 
 // The line `sections` and its lines `section`.
-pub fn sections_part(s: &[u8], p: Place) -> SectionsPart
+fn sections_part(s: &[u8], p: Place) -> SectionsPart
     requires { ⌜ Ready (now s) p ⌝ }
     ensures { λ r. ⌜ SectionsRead (now (s .entry)) p r ⌝ }
 {
@@ -111,7 +115,7 @@ pub fn sections_part(s: &[u8], p: Place) -> SectionsPart
 }
 
 // The line `walls` and its lines `wall`, for the first sections and so many stages.
-pub fn walls_part(s: &[u8], p: Place, sections: Sections, stages: usize) -> WallRows
+fn walls_part(s: &[u8], p: Place, sections: Sections, stages: usize) -> WallRows
     requires { ⌜ sections .count .0 ≤ 12 ⌝ }
     requires { ⌜ Ready (now s) p ⌝ }
     ensures { λ r. ⌜ WallsRead (now (s .entry)) p (map section (take (sections .count .0) (sections .lines))) stages r ⌝ }
@@ -122,4 +126,52 @@ pub fn walls_part(s: &[u8], p: Place, sections: Sections, stages: usize) -> Wall
     let count = sections.count;
     let lines = sections.lines;
     wall_rows(s, q, walls.0, lines, count.0, stages)
+}
+
+pub struct Loading {
+    pub place: Place,
+    pub setters: Setters,
+    pub parts: Parts,
+}
+
+// The setters and the parts.
+pub fn loading_lines(s: &[u8], p: Place) -> Loading
+    requires { ⌜ Ready (now s) p ⌝ }
+    ensures { λ r. ⌜ GroupRead (now (s .entry)) p (partsOf loading) (r .place) (loadingSays r) ⌝ }
+{
+    let a = setters_part(s, p);
+    let q = a.place;
+    let b = parts_part(s, q);
+    let place = b.place;
+    let setters = a.setters;
+    let parts = b.parts;
+    Loading {
+        place,
+        setters,
+        parts,
+    }
+}
+
+pub struct Surfaces {
+    pub place: Place,
+    pub sections: Sections,
+    pub readings: [Reading; 144],
+}
+
+// The sections and the walls, for so many stages.
+pub fn surface_lines(s: &[u8], p: Place, stages: usize) -> Surfaces
+    requires { ⌜ Ready (now s) p ⌝ }
+    ensures { λ r. ⌜ SurfacesRead (now (s .entry)) p stages r ⌝ }
+{
+    let a = sections_part(s, p);
+    let q = a.place;
+    let b = walls_part(s, q, a.sections, stages);
+    let place = b.place;
+    let sections = a.sections;
+    let readings = b.readings;
+    Surfaces {
+        place,
+        sections,
+        readings,
+    }
 }

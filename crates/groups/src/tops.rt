@@ -1,7 +1,9 @@
-// The lines above the stages, in two groups.
-ghost use Rattle.lines.specs.Reader.{Sheet, readParts};
-ghost use Rattle.entries.specs.Place.{Ready, After};
-ghost use Rattle.groups.specs.Tops.{upperParts, lowerParts, UpperShown, LowerShown};
+// The lines above the stages, in the groups of the definitions.
+ghost use Rattle.lines.specs.Entries.{partsOf};
+ghost use Rattle.lines.specs.Document01.{heading, fuelling, drying};
+ghost use Rattle.entries.specs.Place.{Ready};
+ghost use Rattle.groups.specs.Said.{GroupRead};
+ghost use Rattle.groups.specs.Tops.{headingSays, fuellingSays, dryingSays};
 use entries::Place;
 use entries::gas::gas_line;
 use quantity::gas::Moisture;
@@ -22,46 +24,56 @@ use sheet::Fuel;
 use sheet::Ware;
 use sheet::Water;
 
-pub struct Upper {
+pub struct Heading {
     pub place: Place,
     pub firing: FiringNumber,
     pub product: Product,
     pub ambient: Ambient,
-    pub fuel: Fuel,
-    pub gas: [Share; 13],
 }
 
-// The lines `firing` to `gas`.
-pub fn upper_lines(s: &[u8], p: Place) -> Upper
+// The lines `firing` to `ambient`.
+pub fn heading_lines(s: &[u8], p: Place) -> Heading
     requires { ⌜ Ready (now s) p ⌝ }
-    ensures { λ r. ⌜ ((seen : Sheet) → After (now (s .entry)) p (readParts upperParts seen) (r .place) (UpperShown r seen)) ⌝ }
+    ensures { λ r. ⌜ GroupRead (now (s .entry)) p (partsOf heading) (r .place) (headingSays r) ⌝ }
 {
     let l0 = firing_line(s, p);
     let p0 = l0.place;
     let l1 = product_line(s, p0);
     let p1 = l1.place;
     let l2 = ambient_line(s, p1);
-    let p2 = l2.place;
-    let l3 = fuel_line(s, p2);
-    let p3 = l3.place;
-    let l4 = gas_line(s, p3);
-    let p4 = l4.place;
+    let place = l2.place;
     let firing = l0.firing;
     let product = l1.product;
     let ambient = l2.ambient;
-    let fuel = l3.fuel;
-    let gas = l4.gas;
-    Upper {
-        place: p4,
+    Heading {
+        place,
         firing,
         product,
         ambient,
-        fuel,
-        gas,
     }
 }
 
-pub struct Lower {
+pub struct Fuelling {
+    pub place: Place,
+    pub fuel: Fuel,
+    pub gas: [Share; 13],
+}
+
+// The lines `fuel` and `gas`.
+pub fn fuelling_lines(s: &[u8], p: Place) -> Fuelling
+    requires { ⌜ Ready (now s) p ⌝ }
+    ensures { λ r. ⌜ GroupRead (now (s .entry)) p (partsOf fuelling) (r .place) (fuellingSays r) ⌝ }
+{
+    let l0 = fuel_line(s, p);
+    let p0 = l0.place;
+    let l1 = gas_line(s, p0);
+    let place = l1.place;
+    let fuel = l0.fuel;
+    let gas = l1.gas;
+    Fuelling { place, fuel, gas }
+}
+
+pub struct Drying {
     pub place: Place,
     pub moisture: Moisture,
     pub ware: Ware,
@@ -70,9 +82,9 @@ pub struct Lower {
 }
 
 // The lines `air` to `clay`.
-pub fn lower_lines(s: &[u8], p: Place) -> Lower
+pub fn drying_lines(s: &[u8], p: Place) -> Drying
     requires { ⌜ Ready (now s) p ⌝ }
-    ensures { λ r. ⌜ ((seen : Sheet) → After (now (s .entry)) p (readParts lowerParts seen) (r .place) (LowerShown r seen)) ⌝ }
+    ensures { λ r. ⌜ GroupRead (now (s .entry)) p (partsOf drying) (r .place) (dryingSays r) ⌝ }
 {
     let l0 = moisture_line(s, p);
     let p0 = l0.place;
@@ -81,13 +93,13 @@ pub fn lower_lines(s: &[u8], p: Place) -> Lower
     let l2 = water_line(s, p1);
     let p2 = l2.place;
     let l3 = clay_line(s, p2);
-    let p3 = l3.place;
+    let place = l3.place;
     let moisture = l0.moisture;
     let ware = l1.ware;
     let water = l2.water;
     let clay = l3.clay;
-    Lower {
-        place: p3,
+    Drying {
+        place,
         moisture,
         ware,
         water,

@@ -1,72 +1,56 @@
--- The lines one after the other. Assumes nothing.
-use mathlib.Core.Path.{refl}
-use mathlib.Core.List.{[]}
+-- The groups one after the other. Assumes nothing.
 use borrow.Author.Needs.{needs}
-use Rattle.groups.proofs.Held.{walls-pass, lines-after}
+use Rattle.groups.proofs.Held.{lines-after}
 use Rattle.groups.proofs.all.all_lines.Statement.{statement}
 use Rattle.groups.proofs.all.all_lines.Tie as tie
 
-edition-line-requires : tie.Need-edition-line-requires
-edition-line-requires c κs = search needs
-
-upper-lines-requires : tie.Need-upper-lines-requires
-upper-lines-requires c κs = search needs
-
-lower-lines-requires : tie.Need-lower-lines-requires
-lower-lines-requires c κs = record { short = c .before .before .before .pre .short; fair = c .upper-lines .ensures [] .fair }
-
-stages-part-requires : tie.Need-stages-part-requires
-stages-part-requires c κs = record { short = c .before .before .before .before .pre .short; fair = c .lower-lines .ensures [] .fair }
-
-setters-part-requires : tie.Need-setters-part-requires
-setters-part-requires c κs = record { short = c .before .before .before .before .before .pre .short; fair = c .stages-part .ensures .after [] .fair }
-
-parts-part-requires : tie.Need-parts-part-requires
-parts-part-requires c κs = record { short = c .before .before .before .before .before .before .pre .short; fair = c .setters-part .ensures [] .fair }
-
-sections-part-requires : tie.Need-sections-part-requires
-sections-part-requires c κs = record { short = c .before .before .before .before .before .before .before .pre .short; fair = c .parts-part .ensures [] .fair }
-
-walls-part-requires : tie.Need-walls-part-requires
-walls-part-requires c κs =
-    let d = c .sections-part in
-    (d .ensures .within, record { short = c .before .before .before .before .before .before .before .before .pre .short; fair = d .ensures .after [] refl .fair })
+surface-lines-requires : tie.Need-surface-lines-requires
+surface-lines-requires c κs =
+    let first = c .before .before .before .before .before in
+    record { short = first .before .before .pre .short; fair = c .loading-lines .ensures .fair }
 
 closing-line-requires : tie.Need-closing-line-requires
-closing-line-requires c κs = record { short = c .before .before .before .before .before .before .before .before .before .pre .short; fair = walls-pass _ _ _ _ _ (c .walls-part .ensures) .fair }
+closing-line-requires c κs =
+    let first = c .before .before .before .before .before .before in
+    record { short = first .before .before .pre .short; fair = c .surface-lines .ensures .fair }
 
 returns : tie.Need-returns
 returns c =
-    let h = c .before .before .before .before .before .before in
-    let z = h .before .before in
-    let w = z .before in
-    let d = w .before in
-    let p = d .before in
-    let b = p .before in
-    let a = b .before in
-    let l = a .before in
-    let u = l .before in
-    let e = u .before in
-    let a₀ = e .before .before .args in
-    rw (h .head-of .ensures)
+    let head = c .before .before .before .before .before .before in
+    let closing = head .before .before in
+    let surfaces = closing .before in
+    let loading = surfaces .before in
+    let staging = loading .before in
+    let drying = staging .before in
+    let fuelling = drying .before in
+    let heading = fuelling .before in
+    let first = heading .before in
+    let a = first .before .before .args in
+    rw (head .head-of .ensures)
     (record {
-      after = lines-after (a₀ .s .now) (a₀ .start) (e .edition-line .result) (u .upper-lines .result) (l .lower-lines .result) (a .stages-part .result) (b .setters-part .result) (p .parts-part .result) (d .sections-part .result) (w .walls-part .result) (z .closing-line .result) _
-          (e .edition-line .ensures) (u .upper-lines .ensures) (l .lower-lines .ensures) (a .stages-part .ensures) (b .setters-part .ensures) (p .parts-part .ensures) (d .sections-part .ensures) (w .walls-part .ensures) (z .closing-line .ensures);
-      sized = record { stages = a .stages-part .ensures .within; sections = d .sections-part .ensures .within; small = a .stages-part .ensures .small };
+      after = lines-after (a .s .now) (a .start)
+          (first .edition-line .result) (heading .heading-lines .result) (fuelling .fuelling-lines .result) (drying .drying-lines .result)
+          (staging .staging-lines .result) (loading .loading-lines .result) (surfaces .surface-lines .result) (closing .closing-line .result) _
+          (first .edition-line .ensures) (heading .heading-lines .ensures) (fuelling .fuelling-lines .ensures) (drying .drying-lines .ensures)
+          (staging .staging-lines .ensures) (loading .loading-lines .ensures) (surfaces .surface-lines .ensures) (closing .closing-line .ensures);
+      sized = record {
+        stages = staging .staging-lines .ensures .within;
+        sections = surfaces .surface-lines .ensures .within;
+        small = staging .staging-lines .ensures .small;
+      };
     })
 
 pub all-lines-spec : {M : Type 1} → statement M
 all-lines-spec =
     tie.close
     (tie.spec
-    edition-line-requires
-    upper-lines-requires
-    lower-lines-requires
-    stages-part-requires
-    setters-part-requires
-    parts-part-requires
-    sections-part-requires
-    walls-part-requires
+    (λ c κs. search needs)
+    (λ c κs. search needs)
+    (λ c κs. search needs)
+    (λ c κs. search needs)
+    (λ c κs. search needs)
+    (λ c κs. search needs)
+    surface-lines-requires
     closing-line-requires
     (λ c κs. search needs)
     returns)

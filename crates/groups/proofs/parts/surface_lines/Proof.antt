@@ -1,0 +1,56 @@
+-- The sections, then the walls: what these ask of the lines above them is said by those and by the sections. Assumes nothing.
+use mathlib.Core.Path.{refl, sym, ap, _∙_}
+use mathlib.Core.List.{List, [], _∷_, _++_, map}
+use borrow.Author.Needs.{needs}
+use Rattle.text.specs.Bytes.{bytes}
+use Rattle.lines.specs.Schema.{Row}
+use Rattle.lines.specs.Reader.{filled}
+use Rattle.lines.specs.Rows.{sectionOf}
+use Rattle.lines.specs.Document01.{sectionLine, wallLine, sections, walls}
+use Rattle.tiers.specs.Surface.{WallsShown}
+use Rattle.tiers.proofs.Above.{rows-here}
+use Rattle.tiers.proofs.Sequence.{pass-on, parts-done}
+use Rattle.groups.specs.Said.{saysAll, Said}
+use Rattle.groups.specs.Blocks.{sectionsOf, SectionRows}
+use Rattle.groups.proofs.Said.{part-then, lacks-more}
+use Rattle.groups.proofs.Surfaces.{stages-stay, walls-pass}
+use Rattle.groups.proofs.parts.surface_lines.Statement.{statement}
+use Rattle.groups.proofs.parts.surface_lines.Tie as tie
+
+walls-part-requires : tie.Need-walls-part-requires
+walls-part-requires c κs =
+    let a = c .before .sections-part .ensures in
+    (a .within, record { short = c .before .before .before .pre .short; fair = a .after [] refl .fair })
+
+returns : tie.Need-returns
+returns c =
+    let walls-read = c .before .before .before in
+    let sections-read = walls-read .before .before in
+    let w = walls-read .walls-part in
+    let d = sections-read .sections-part in
+    let a = sections-read .before .before .args in
+    let q = d .result .place in
+    let q′ = w .result .place in
+    let S = sectionsOf (d .result .sections) in
+    let Walls = WallsShown S (w .result .readings) in
+    let last = walls-pass (a .s .now) q S (a .stages) (w .result) (w .ensures) in
+    record {
+      after = λ seen b.
+          part-then (a .p) q q′ (sections .part) sectionLine (SectionRows (d .result .sections)) (walls .part ∷ []) (saysAll wallLine Walls ∷ []) seen (d .ensures .after seen (b .sections))
+          (λ rows h.
+          (let t = seen ++ filled sectionLine rows in
+          part-then q q′ q′ (walls .part) wallLine Walls [] [] t
+          (w .ensures t
+          (lacks-more (bytes "wall") sectionLine rows seen refl (b .walls))
+          (ap (λ (l : List Row). map sectionOf l) (rows-here sectionLine rows seen (b .sections)) ∙ sym (h .filled .shown))
+          (stages-stay rows seen (a .stages) (b .stages)))
+          (λ more k. (let u = t ++ filled wallLine more in parts-done (a .s .now) q′ u (Said [] u) refl (last .fair)))
+          (λ e. refl) (last .fair)))
+          (last .passes) (last .fair);
+      passes = pass-on (d .ensures .after [] refl .passes) (last .passes);
+      fair = last .fair;
+      within = d .ensures .within;
+    }
+
+pub surface-lines-spec : {M : Type 1} → statement M
+surface-lines-spec = tie.close (tie.spec (λ c κs. search needs) walls-part-requires returns)
