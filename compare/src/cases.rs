@@ -8,6 +8,7 @@ use crate::{forms, halves, inner};
 use second::limits::LONGEST;
 
 /// A sheet and the room that is lent for its report.
+#[derive(Clone)]
 pub struct Case {
     pub number: u64,
     pub kind: &'static str,

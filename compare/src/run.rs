@@ -1,7 +1,7 @@
 //! The comparison as a whole: one thread makes sheets and sends them, the other takes the answers and holds them to what is due.
 
 use crate::cases::{Case, Source};
-use crate::harness::{self, Deed, BATCH};
+use crate::harness::{self, BATCH};
 use crate::judge::{agree, due, Damage};
 use crate::{program as balance, show};
 use std::io::{self, Read};
@@ -100,6 +100,9 @@ fn keep(case: &Case, words: String) -> String {
     }
 }
 
+/// The harness lays a sheet at the front of what can be read once in so many requests, and otherwise at its end.
+const PLACES: usize = 3;
+
 /// The sheet at which the harness ends, when it has ended in the midst of a batch: each is put to a harness of its own.
 fn culprit(plan: &Plan, batch: &[Case], from: u64, error: &io::Error) -> String {
     let mut words = format!("the harness ended before it answered sheet {from} of seed {} ({error})\n", plan.seed);
@@ -114,13 +117,14 @@ fn culprit(plan: &Plan, batch: &[Case], from: u64, error: &io::Error) -> String 
     words + "with each sheet of the batch alone it does not end\n"
 }
 
-fn alone(plan: &Plan, case: &Case) -> io::Result<Deed> {
+/// Whether the harness answers this sheet in every place.
+fn alone(plan: &Plan, case: &Case) -> io::Result<()> {
     let (mut child, mut requests, mut answers) = harness::start(&plan.harness)?;
-    harness::send(&mut requests, std::slice::from_ref(case))?;
+    harness::send(&mut requests, &vec![case.clone(); PLACES])?;
     drop(requests);
-    let deed = harness::receive(&mut answers);
+    let answered = (0..PLACES).try_for_each(|_| harness::receive(&mut answers).map(drop));
     child.wait()?;
-    deed
+    answered
 }
 
 /// A sample of the same sheets through the program, up to the first difference.
