@@ -1,9 +1,10 @@
 /* Puts sheets to the library and hands back all that it did: harness [DAMAGE]. The program `compare` starts it and talks to it.
+ * With BEFORE defined it puts each of them to the library from before a change as well (tools/same).
  *
  * A batch comes on standard input: two numbers of 32 bits, how many bytes and how many requests; then the requests. A request is two
  * numbers, the sheet's length and the report's room, and the sheet. When a batch has come whole it is worked through, and then all its
- * answers are written: refusal, line, length (64 bits), what was touched that should not have been, and all bytes of the room.
- * Numbers are as this processor has them, the lowest byte first.
+ * answers are written: refusal, line, length (64 bits), what was touched that should not have been, the room's size, and all bytes of
+ * the room; and with BEFORE the other library's answer behind each. Numbers are as this processor has them, the lowest byte first.
  *
  * DAMAGE is for seeing that the comparison fails when it should: one answer, after the first few hundred, is spoilt in the way it says,
  * or with `crash` the program ends at the first surface that is colder than its air.
@@ -15,7 +16,7 @@
 #include <sys/mman.h>
 #include <unistd.h>
 
-#include "hallviska.h"
+#include "ask.h"
 
 enum { GUARD = 64, ROOM_MOST = 4096, SHEET_MOST = 65536, BATCH_MOST = 1 << 24, FIRST_SPOILT = 300 };
 
@@ -120,8 +121,15 @@ static bool spoil_bytes(struct head *head, uint8_t *report, uint8_t *sheet, size
     return true;
 }
 
-/* One call. In turn the sheet's last byte is the last that can be read and its first the first, and the report lies at every alignment. */
-static void call(const uint8_t *text, size_t sheet_length, size_t room)
+/* A sheet and a room, where they lie for a call. */
+struct loan {
+    const uint8_t *text;
+    uint8_t *sheet, *report;
+    size_t sheet_length, room;
+};
+
+/* In turn the sheet's last byte is the last that can be read and its first the first, and the report lies at every alignment. */
+static struct loan lend(const uint8_t *text, size_t sheet_length, size_t room)
 {
     uint8_t *sheet = number % 3 == 0 ? sheet_area : sheet_end - sheet_length;
     uint8_t *report = lent + GUARD + number % 16;
@@ -130,22 +138,46 @@ static void call(const uint8_t *text, size_t sheet_length, size_t room)
         report[(ptrdiff_t)place - GUARD] = report[room + place] = guarding(place);
     for (size_t place = 0; place < room; place++)
         report[place] = filling(number, place);
+    return (struct loan){text, sheet, report, sheet_length, room};
+}
 
-    struct hallviska_answer answer = hallviska_balance(sheet, sheet_length, report, room);
+static struct head headed(struct said said, size_t room)
+{
+    return (struct head){said.refusal, said.line, said.length, UNTOUCHED, (uint32_t)room};
+}
 
-    struct head head = {answer.refusal, answer.line, answer.length, UNTOUCHED, (uint32_t)room};
-    if (asked_for("crash") && answer.refusal == HALLVISKA_COLDER)
-        abort();
-    if (*damage && number >= FIRST_SPOILT && (spoil_answer(&head) || spoil_bytes(&head, report, sheet, sheet_length)))
-        damage = "";
-    if (!guarded(report - GUARD))
+/* Sends what was said, and all that was done with what was lent. */
+static void hand_back(struct head head, struct loan loan)
+{
+    if (!guarded(loan.report - GUARD))
         head.touched |= TOUCHED_BEFORE;
-    if (!guarded(report + room))
+    if (!guarded(loan.report + loan.room))
         head.touched |= TOUCHED_BEHIND;
-    if (memcmp(sheet, text, sheet_length) != 0)
+    if (memcmp(loan.sheet, loan.text, loan.sheet_length) != 0)
         head.touched |= TOUCHED_SHEET;
-    if (fwrite(&head, sizeof head, 1, stdout) != 1 || (room > 0 && fwrite(report, room, 1, stdout) != 1))
+    if (fwrite(&head, sizeof head, 1, stdout) != 1 || (loan.room > 0 && fwrite(loan.report, loan.room, 1, stdout) != 1))
         fail("nobody takes the answers");
+}
+
+static void call(const uint8_t *text, size_t sheet_length, size_t room)
+{
+    struct loan loan = lend(text, sheet_length, room);
+    struct said said;
+    ask(loan.sheet, sheet_length, loan.report, room, &said);
+
+    struct head head = headed(said, room);
+    if (asked_for("crash") && said.refusal == HALLVISKA_COLDER)
+        abort();
+    if (*damage && number >= FIRST_SPOILT && (spoil_answer(&head) || spoil_bytes(&head, loan.report, loan.sheet, sheet_length)))
+        damage = "";
+    hand_back(head, loan);
+
+#ifdef BEFORE
+    /* The same bytes in the same places. */
+    loan = lend(text, sheet_length, room);
+    ask_before(loan.sheet, sheet_length, loan.report, room, &said);
+    hand_back(headed(said, room), loan);
+#endif
     number++;
 }
 

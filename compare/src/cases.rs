@@ -6,6 +6,7 @@ use crate::faults::{self, FAULTS, OF_WALLS, WHOLE};
 use crate::valid::{self, Pin, Style};
 use crate::{forms, halves, inner};
 use second::limits::LONGEST;
+use std::path::{Path, PathBuf};
 
 /// A sheet and the room that is lent for its report.
 #[derive(Clone)]
@@ -14,6 +15,8 @@ pub struct Case {
     pub kind: &'static str,
     pub sheet: Vec<u8>,
     pub room: usize,
+    /// Where the sheet lies, if it was not made.
+    pub file: Option<PathBuf>,
 }
 
 /// Makes the bytes of a kind's sheet. The step counts the sheets of the kind, for kinds that go through something in order.
@@ -86,7 +89,7 @@ impl Source {
         let mut dice = Dice::new(self.seed, place as u64, step);
         let sheet = (kind.make)(self, step, &mut dice);
         let room = if kind.name == "room" { (step % ROOMS) as usize } else { room(&sheet, &mut dice) };
-        Case { number, kind: kind.name, sheet, room }
+        Case { number, kind: kind.name, sheet, room, file: None }
     }
 
     /// A sheet that several cases start from.
@@ -94,6 +97,15 @@ impl Source {
         let name = purpose.bytes().fold(0, |sum: u64, byte| sum * 256 + u64::from(byte));
         make(&mut Dice::new(self.seed, name, step)).bytes()
     }
+}
+
+/// A sheet that lies in a file, in every room that may show something of it.
+pub fn of_file(number: u64, path: &Path, sheet: &[u8]) -> Vec<Case> {
+    let needed = second::answer(sheet, &mut [0; 1024]).length;
+    let mut rooms = vec![0, needed / 2, needed.saturating_sub(1), needed, needed + 1, 1024];
+    rooms.dedup();
+    let case = |room| Case { number, kind: "of a file", sheet: sheet.to_vec(), room, file: Some(path.to_path_buf()) };
+    rooms.into_iter().map(case).collect()
 }
 
 /// Mostly a room that suits, exactly or with some to spare; now and then one that is too small.

@@ -8,6 +8,9 @@ use std::process::{Child, ChildStdin, ChildStdout, Command, Stdio};
 /// Requests that are sent at once. A batch keeps the two programs from waiting for each other at every sheet.
 pub const BATCH: usize = 256;
 
+/// What a deed says where nothing was written that should not have been.
+pub const UNTOUCHED: u32 = 0;
+
 /// All that the library did with a sheet.
 pub struct Deed {
     pub answer: Answer,

@@ -1,16 +1,10 @@
-//! Whether the library did with a sheet what the second opinion says is due.
+//! Whether the library did with a sheet what is due: what the second opinion says, or what the library did before a change.
 
 use crate::cases::Case;
-use crate::harness::{fill, Deed};
+use crate::harness::{fill, Deed, UNTOUCHED};
 use second::Answer;
 
-/// What is due for a sheet: the answer, and every byte of the room after it.
-pub struct Due {
-    pub answer: Answer,
-    pub room: Vec<u8>,
-}
-
-/// A way to spoil one of the second opinion's answers, to see that the comparison fails when it should.
+/// A way to spoil one of the answers that are due, to see that the comparison fails when it should.
 #[derive(Clone, Copy, PartialEq, Debug)]
 pub enum Damage {
     Refusal,
@@ -40,7 +34,7 @@ impl Damage {
     }
 
     /// True where the answer could be spoilt in this way.
-    pub fn spoil(self, due: &mut Due) -> bool {
+    pub fn spoil(self, due: &mut Deed) -> bool {
         let Answer { refusal, line, length } = due.answer;
         let refused = refusal != 0;
         match self {
@@ -58,14 +52,15 @@ impl Damage {
     }
 }
 
-/// What is due for a sheet that is the harness's request of this number.
-pub fn due(case: &Case, request: u64) -> Due {
+/// What the second opinion says is due for a sheet that is the harness's request of this number.
+pub fn due(case: &Case, request: u64) -> Deed {
     let mut room = vec![0; case.room];
     fill(request, &mut room);
     let answer = second::answer(&case.sheet, &mut room);
-    Due { answer, room }
+    Deed { answer, touched: UNTOUCHED, room }
 }
 
-pub fn agree(due: &Due, deed: &Deed) -> bool {
-    deed.touched == 0 && due.answer == deed.answer && due.room == deed.room
+/// What was touched that should not have been is no agreement, even where both have.
+pub fn agree(due: &Deed, deed: &Deed) -> bool {
+    due.touched == UNTOUCHED && deed.touched == UNTOUCHED && due.answer == deed.answer && due.room == deed.room
 }

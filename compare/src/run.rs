@@ -1,20 +1,49 @@
 //! The comparison as a whole: one thread makes sheets and sends them, the other takes the answers and holds them to what is due.
 
 use crate::cases::{Case, Source};
-use crate::harness::{self, BATCH};
+use crate::harness::{self, Deed, BATCH};
 use crate::judge::{agree, due, Damage};
-use crate::{program as balance, show};
+use crate::program as balance;
+use crate::show::{self, Names};
+use std::collections::BTreeMap;
 use std::io::{self, Read};
+use std::path::PathBuf;
 use std::process::ChildStdin;
 use std::sync::mpsc::{sync_channel, Receiver, SyncSender};
 use std::thread;
 use std::time::Instant;
+
+/// Whom the library is held to.
+pub enum Against {
+    Second,
+    /// The library before a change. The harness puts each sheet to it too, and sends its answer behind the other. The file has the names of
+    /// sheets to begin with.
+    Before(PathBuf),
+}
+
+impl Against {
+    /// What the outcome is told under, and the folder in which a difference is kept.
+    fn word(&self) -> &'static str {
+        match self {
+            Against::Second => "compare",
+            Against::Before(_) => "same",
+        }
+    }
+
+    fn names(&self) -> Names {
+        match self {
+            Against::Second => Names { due: "second opinion", done: "library" },
+            Against::Before(_) => Names { due: "archive before", done: "archive after" },
+        }
+    }
+}
 
 /// What is asked for.
 pub struct Plan {
     pub count: u64,
     pub seed: u64,
     pub harness: Vec<String>,
+    pub against: Against,
     pub damage: Option<Damage>,
     /// How many sheets go through the program besides.
     pub sample: u64,
@@ -24,6 +53,7 @@ pub struct Plan {
 pub struct Outcome {
     /// How many sheets met each refusal, and at 0 how many were accepted.
     met: [u64; 12],
+    kinds: BTreeMap<&'static str, u64>,
     seconds: f64,
     pub difference: Option<String>,
 }
@@ -35,28 +65,29 @@ const AHEAD: usize = 8;
 const FIRST_SPOILT: u64 = 300;
 
 /// Makes and sends the sheets. It stops where nobody takes them any more; whoever reads the answers will say why.
-fn send_all(plan: &Plan, source: &Source, mut requests: ChildStdin, sent: SyncSender<Vec<Case>>) {
-    let mut next = 0;
-    while next < plan.count {
-        let end = plan.count.min(next + BATCH as u64);
-        let batch: Vec<Case> = (next..end).map(|number| source.case(number)).collect();
+fn send_all(mut cases: impl Iterator<Item = Case>, mut requests: ChildStdin, sent: SyncSender<Vec<Case>>) {
+    loop {
+        let batch: Vec<Case> = cases.by_ref().take(BATCH).collect();
+        if batch.is_empty() {
+            return;
+        }
         let taken = harness::send(&mut requests, &batch).is_ok();
         if sent.send(batch).is_err() || !taken {
             return;
         }
-        next = end;
     }
 }
 
-/// The library against the second opinion, up to the first difference.
-pub fn library(plan: &Plan, source: &Source) -> io::Result<Outcome> {
+/// The library against whom it is held to, on sheets that are given and then on those that are made, up to the first difference.
+pub fn library(plan: &Plan, source: &Source, given: Vec<Case>) -> io::Result<Outcome> {
     let start = Instant::now();
     let (mut child, requests, mut answers) = harness::start(&plan.harness)?;
     let (sent, batches) = sync_channel(AHEAD);
-    let mut outcome = Outcome { met: [0; 12], seconds: 0.0, difference: None };
+    let mut outcome = Outcome { met: [0; 12], kinds: BTreeMap::new(), seconds: 0.0, difference: None };
+    let cases = given.into_iter().chain((0..plan.count).map(|number| source.case(number)));
     thread::scope(|scope| {
-        scope.spawn(move || send_all(plan, source, requests, sent));
-        outcome.difference = receive_all(plan, batches, &mut answers, &mut outcome.met);
+        scope.spawn(move || send_all(cases, requests, sent));
+        outcome.difference = receive_all(plan, batches, &mut answers, &mut outcome);
         if outcome.difference.is_some() {
             // The sender may be waiting for the harness to read, and the harness for somebody to read its answers.
             let _ = child.kill();
@@ -72,30 +103,45 @@ pub fn library(plan: &Plan, source: &Source) -> io::Result<Outcome> {
     Ok(outcome)
 }
 
-fn receive_all(plan: &Plan, batches: Receiver<Vec<Case>>, answers: &mut impl Read, met: &mut [u64; 12]) -> Option<String> {
+/// What is due for a sheet, and what the library did with it.
+fn receive(plan: &Plan, case: &Case, answers: &mut impl Read) -> io::Result<(Deed, Deed)> {
+    let deed = harness::receive(answers)?;
+    let due = match plan.against {
+        Against::Second => due(case, case.number),
+        Against::Before(_) => harness::receive(answers)?,
+    };
+    Ok((due, deed))
+}
+
+fn receive_all(plan: &Plan, batches: Receiver<Vec<Case>>, answers: &mut impl Read, outcome: &mut Outcome) -> Option<String> {
     let mut damage = plan.damage;
     for batch in batches {
         for case in &batch {
-            let deed = match harness::receive(answers) {
-                Ok(deed) => deed,
-                Err(error) => return Some(culprit(plan, &batch, case.number, &error)),
+            let (mut due, deed) = match receive(plan, case, answers) {
+                Ok(both) => both,
+                Err(error) => return Some(culprit(plan, &batch, case, &error)),
             };
-            let mut due = due(case, case.number);
             if case.number >= FIRST_SPOILT && damage.map_or(false, |way| way.spoil(&mut due)) {
                 damage = None;
             }
-            if !agree(&due, &deed) {
-                return Some(keep(case, show::difference(plan.seed, case, &due, &deed)));
+            if !agree(&due, &deed) || !outcome.count(case, &due) {
+                let words = show::difference(plan.seed, case, &plan.against.names(), &due, &deed);
+                return Some(match plan.against {
+                    Against::Second => keep(plan, case, words, &[]),
+                    Against::Before(_) => keep(plan, case, words, &[("before", &due.room), ("after", &deed.room)]),
+                });
             }
-            met[due.answer.refusal as usize] += 1;
         }
     }
     None
 }
 
-fn keep(case: &Case, words: String) -> String {
-    match show::save(&case.sheet, &words) {
-        Ok(()) => words + "the sheet and these words are kept as target/compare/difference.sheet and .txt\n",
+fn keep(plan: &Plan, case: &Case, words: String, more: &[(&str, &[u8])]) -> String {
+    let folder = plan.against.word();
+    let kept = [&[("sheet", &case.sheet[..]), ("txt", words.as_bytes())], more].concat();
+    let rooms: String = more.iter().map(|(kind, _)| format!(", the room {kind} as .{kind}")).collect();
+    match show::save(folder, &kept) {
+        Ok(()) => words + &format!("the sheet and these words are kept as target/{folder}/difference.sheet and .txt{rooms}\n"),
         Err(error) => format!("{words}the sheet could not be kept: {error}\n"),
     }
 }
@@ -104,14 +150,14 @@ fn keep(case: &Case, words: String) -> String {
 const PLACES: usize = 3;
 
 /// The sheet at which the harness ends, when it has ended in the midst of a batch: each is put to a harness of its own.
-fn culprit(plan: &Plan, batch: &[Case], from: u64, error: &io::Error) -> String {
-    let mut words = format!("the harness ended before it answered sheet {from} of seed {} ({error})\n", plan.seed);
+fn culprit(plan: &Plan, batch: &[Case], from: &Case, error: &io::Error) -> String {
+    let mut words = show::heading(plan.seed, from) + &format!("the harness ended before it answered this one ({error})\n");
     for case in batch {
         if alone(plan, case).is_err() {
             words += "it ends also with this sheet alone:\n";
             words += &show::heading(plan.seed, case);
             words += &show::numbered(&case.sheet);
-            return keep(case, words);
+            return keep(plan, case, words, &[]);
         }
     }
     words + "with each sheet of the batch alone it does not end\n"
@@ -122,7 +168,7 @@ fn alone(plan: &Plan, case: &Case) -> io::Result<()> {
     let (mut child, mut requests, mut answers) = harness::start(&plan.harness)?;
     harness::send(&mut requests, &vec![case.clone(); PLACES])?;
     drop(requests);
-    let answered = (0..PLACES).try_for_each(|_| harness::receive(&mut answers).map(drop));
+    let answered = (0..PLACES).try_for_each(|_| receive(plan, case, &mut answers).map(drop));
     child.wait()?;
     answered
 }
@@ -137,29 +183,43 @@ pub fn program(plan: &Plan, source: &Source, words: &[&str]) -> io::Result<Optio
             let mut text = show::heading(plan.seed, &case) + "through the program `balance`\nit prints:\n";
             text += &(show::numbered(&printed) + "and the second opinion is:\n" + &show::numbered(&due));
             text += &("of the sheet:\n".to_string() + &show::numbered(&case.sheet));
-            return Ok(Some(keep(&case, text)));
+            return Ok(Some(keep(plan, &case, text, &[])));
         }
     }
     Ok(None)
 }
 
 impl Outcome {
+    /// False where there is no such refusal.
+    fn count(&mut self, case: &Case, due: &Deed) -> bool {
+        *self.kinds.entry(case.kind).or_default() += 1;
+        let met = self.met.get_mut(due.answer.refusal as usize);
+        met.map(|sheets| *sheets += 1).is_some()
+    }
+
     /// Says what came of it, and whether that is well.
     pub fn tell(&self, plan: &Plan) -> bool {
+        let word = plan.against.word();
         if let Some(words) = &self.difference {
-            eprint!("compare: a difference\n{words}");
+            eprint!("{word}: a difference\n{words}");
             return false;
+        }
+        if let Against::Before(_) = plan.against {
+            self.kinds.iter().for_each(|(kind, sheets)| println!("{word}: {kind:20} {sheets:8} sheets"));
         }
         for (number, sheets) in self.met.iter().enumerate() {
             let what = if number == 0 { "accepted".to_string() } else { format!("refusal {number}") };
-            println!("compare: {what:10} {sheets:8} sheets");
+            println!("{word}: {what:10} {sheets:8} sheets");
         }
         let each = self.seconds * 1e6 / plan.count.max(1) as f64;
-        println!("compare: {} sheets of seed {} in {:.1} s, {each:.0} us each", plan.count, plan.seed, self.seconds);
-        println!("compare: {} of them through the program too; no difference", plan.sample);
+        println!("{word}: {} sheets of seed {} in {:.1} s, {each:.0} us each", plan.count, plan.seed, self.seconds);
+        match plan.against {
+            Against::Second => println!("{word}: {} of them through the program too; no difference", plan.sample),
+            Against::Before(_) => println!("{word}: no difference"),
+        }
         let missed = self.met.iter().position(|&sheets| sheets == 0);
         if let Some(number) = missed {
-            eprintln!("compare: no sheet met {number}, so nothing is said about it");
+            eprintln!("{word}: no sheet met {number}, so nothing is said about it");
         }
         missed.is_none()
     }

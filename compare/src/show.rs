@@ -2,17 +2,19 @@
 
 use crate::cases::Case;
 use crate::harness::Deed;
-use crate::judge::Due;
 use second::Answer;
 use std::fmt::Write;
 use std::path::Path;
 use std::{fs, io};
 
-const TOUCHED: [(u32, &str); 3] = [
-    (1, "the library has written before the room that was lent\n"),
-    (2, "the library has written behind the room that was lent\n"),
-    (4, "the library has changed the sheet\n"),
-];
+/// What the two that are compared are called: whose answers are due, and whose are held to them.
+pub struct Names {
+    pub due: &'static str,
+    pub done: &'static str,
+}
+
+const TOUCHED: [(u32, &str); 3] =
+    [(1, "has written before the room that was lent"), (2, "has written behind the room that was lent"), (4, "has changed the sheet")];
 
 pub fn words(answer: &Answer) -> String {
     match answer.refusal {
@@ -31,7 +33,7 @@ fn shown(bytes: &[u8]) -> String {
 }
 
 /// The first byte in which two rooms differ, and both lines around it.
-fn first_difference(due: &[u8], done: &[u8]) -> Option<String> {
+fn first_difference(names: &Names, due: &[u8], done: &[u8]) -> Option<String> {
     if due.len() != done.len() {
         return Some(format!("the room has {} bytes and came back with {}\n", due.len(), done.len()));
     }
@@ -41,26 +43,33 @@ fn first_difference(due: &[u8], done: &[u8]) -> Option<String> {
         let end = bytes[at..].iter().position(|&byte| byte == b'\n').map_or(bytes.len(), |lf| at + lf);
         shown(&bytes[start..end])
     };
-    Some(format!("byte {at} of the room: the second opinion has {}\n", line(due)) + &format!("  and the library {}\n", line(done)))
+    let Names { due: one, done: other } = names;
+    Some(format!("byte {at} of the room: the {one} has {}\n  and the {other} {}\n", line(due), line(done)))
 }
 
 /// What the sheet is and where the two differ.
-pub fn difference(seed: u64, case: &Case, due: &Due, deed: &Deed) -> String {
+pub fn difference(seed: u64, case: &Case, names: &Names, due: &Deed, deed: &Deed) -> String {
     let mut text = heading(seed, case);
-    let _ = writeln!(text, "the library says {}", words(&deed.answer));
-    let _ = writeln!(text, "the second opinion says {}", words(&due.answer));
-    for (bit, what) in TOUCHED {
-        if deed.touched & bit != 0 {
-            text += what;
+    let both = [(names.done, deed), (names.due, due)];
+    for (name, side) in both {
+        let _ = writeln!(text, "the {name} says {}", words(&side.answer));
+    }
+    for (name, side) in both {
+        for (_, what) in TOUCHED.iter().filter(|(bit, _)| side.touched & bit != 0) {
+            let _ = writeln!(text, "the {name} {what}");
         }
     }
-    text += &first_difference(&due.room, &deed.room).unwrap_or_default();
+    text += &first_difference(names, &due.room, &deed.room).unwrap_or_default();
     text + &numbered(&case.sheet)
 }
 
 pub fn heading(seed: u64, case: &Case) -> String {
-    let Case { number, kind, sheet, room } = case;
-    format!("sheet {number} of seed {seed} ({kind}, {} bytes, a room of {room})\n", sheet.len())
+    let Case { number, kind, sheet, room, file } = case;
+    let which = match file {
+        Some(path) => path.display().to_string(),
+        None => format!("sheet {number} of seed {seed}"),
+    };
+    format!("{which} ({kind}, {} bytes, a room of {room})\n", sheet.len())
 }
 
 /// The sheet's lines with their numbers.
@@ -72,10 +81,9 @@ pub fn numbered(sheet: &[u8]) -> String {
     text
 }
 
-/// Keeps the sheet and the words under `target/compare/`.
-pub fn save(sheet: &[u8], words: &str) -> io::Result<()> {
-    let folder = Path::new("target/compare");
-    fs::create_dir_all(folder)?;
-    fs::write(folder.join("difference.sheet"), sheet)?;
-    fs::write(folder.join("difference.txt"), words)
+/// Keeps what belongs to a difference in this folder under `target/`: a file for each kind of bytes.
+pub fn save(folder: &str, kept: &[(&str, &[u8])]) -> io::Result<()> {
+    let folder = Path::new("target").join(folder);
+    fs::create_dir_all(&folder)?;
+    kept.iter().try_for_each(|(kind, bytes)| fs::write(folder.join("difference").with_extension(kind), bytes))
 }
