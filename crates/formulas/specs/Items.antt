@@ -1,8 +1,9 @@
 -- The two sides of a balance, (31), as lists of items: an item is a key of the report and its heat. The edition of the sheet chooses them.
-use Prim.Native.Nat.{ℕ}
+use Prim.Native.Nat.{ℕ, _+_}
 use Prim.Native.String.{String}
 use mathlib.Core.List.{List, [], _∷_, _++_}
 use lib.IntN.{ℤ, _-ℤ_}
+use lib.ListN.{length}
 use Rattle.text.specs.Bytes.{bytes}
 use Rattle.sheet.specs.Firing.{Firing}
 use Rattle.formulas.specs.Rounding.{Rounding}
@@ -43,3 +44,7 @@ x11 s f r = total (s .incomes) f r -ℤ total (s .expenses) f r
 -- EVERY HEAT OF A BALANCE, in the report's order
 unfoldable pub heats : Sides → List Item
 heats s = s .incomes ++ (item "in" (total (s .incomes)) ∷ (s .expenses ++ (item "x11" (x11 s) ∷ item "useful" useful ∷ item "withset" withset ∷ [])))
+
+-- how many: the items of both sides, and `in`, `x11`, `useful`, `withset`
+abbrev pub heatCount : Sides → ℕ
+heatCount s = length (s .incomes) + length (s .expenses) + 4

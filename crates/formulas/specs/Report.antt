@@ -1,15 +1,16 @@
 -- Document 01, "A whole firing": the report's lines in their order, each figure once, over a way of rounding.
-use Prim.Native.Nat.{ℕ, _*_}
+use Prim.Native.Nat.{ℕ, _+_, _*_}
 use Prim.Native.String.{String}
 use mathlib.Core.List.{List, [], _∷_, _++_, map}
 use lib.IntN.{ℤ, pos, natAbs, _*ℤ_}
+use lib.ListN.{length}
 use Rattle.arith.specs.Nearest.{nearest}
 use Rattle.text.specs.Bytes.{bytes}
 use Rattle.text.specs.Decimal as text
 use Rattle.sheet.specs.Firing.{Firing}
 use Rattle.formulas.specs.Rounding.{Rounding, paper}
 use Rattle.formulas.specs.Formulas.{joule, q1, useful, withset}
-use Rattle.formulas.specs.Items.{Quantity, Item, Sides, sidesOf, heats}
+use Rattle.formulas.specs.Items.{Quantity, Item, Sides, sidesOf, heats, heatCount}
 
 -- a figure: the sheet's firing number, a heat per tonne of ware, or a heat over q1
 pub data Figure : Type 0 where
@@ -31,6 +32,10 @@ shares = line "eff1" (share useful) ∷ line "eff2" (share withset) ∷ []
 
 unfoldable pub lines : Sides → List Line
 lines s = line "firing" number ∷ (map itemLine (heats s) ++ shares)
+
+-- how many: the firing's number, the heats and the shares
+abbrev pub lineCount : Sides → ℕ
+lineCount s = 1 + heatCount s + length shares
 
 -- A FIGURE BEFORE IT IS PRINTED, as a fraction of whole numbers: kJ per tonne are joules over product kilograms, and the product is in
 -- 0.1 kg; a share is in 0.01 %

@@ -22,6 +22,18 @@ use solids::water::x2;
 use solids::water::x3;
 use surface::x9;
 
+// How many heats a balance has.
+pub const HEATS: usize = 17;
+
+// Where in a balance the heat of the fuel lies, which an efficiency is a share of.
+pub const Q1: usize = 0;
+
+// Where the useful heat lies.
+pub const USEFUL: usize = HEATS - 2;
+
+// Where the useful heat lies, that of the setters with it.
+pub const WITHSET: usize = HEATS - 1;
+
 // The heat of the fuel: of burning, and above the base temperature.
 pub struct FuelHeat {
     pub q1: Joules,
@@ -127,7 +139,7 @@ fn heats_of(sheet: Sheet) -> Heats
 }
 
 // The balance of a firing: its heats in joules, each in the place of its line in the report.
-pub fn balance(sheet: Sheet) -> [i64; 17]
+pub fn balance(sheet: Sheet) -> [i64; HEATS]
     requires { ⌜ ((f : Firing) × Kept sheet f) ⌝ }
     ensures { λ r. ⌜ ((f : Firing) → Kept sheet f → Balanced f r) ⌝ }
 {
