@@ -66,3 +66,13 @@ figures f = map (λ l. printed f (l .figure)) (lines (sidesOf (f .edition)))
 
 unfoldable pub report : Firing → List ℕ
 report f = linesText (keys (sidesOf (f .edition))) (figures f)
+
+-- THE HEATS THEMSELVES, whole joules of the firing and not for a tonne: `key=joules` and LF, for each
+unfoldable pub heatKeys : Sides → List (List ℕ)
+heatKeys s = map (λ i. i .key) (heats s)
+
+unfoldable pub joules : Firing → List ℤ
+joules f = map (λ i. nearest (i .heat f paper) joule) (heats (sidesOf (f .edition)))
+
+unfoldable pub joulesText : Firing → List ℕ
+joulesText f = linesText (heatKeys (sidesOf (f .edition))) (joules f)

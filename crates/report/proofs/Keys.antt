@@ -3,7 +3,7 @@ use Prim.Native.Nat.{ℕ, zero, suc, _+_, _-_, _≤_, _<_}
 use mathlib.Core.Path.{_≡_, refl, sym, ap, ap₂, _∙_}
 use mathlib.Core.Bool.{Bool, true, _&&_}
 use mathlib.Core.Logic.{⊎-elim}
-use mathlib.Core.List.{List, [], _∷_}
+use mathlib.Core.List.{List, [], _∷_, _++_}
 use native.Mathlib.Omega.{arith}
 use native.Mathlib.Nat.{eq-or-lt-of-le}
 use lib.ListN.{length, getD, take, drop, length-take, length-drop}
@@ -12,7 +12,8 @@ use Rattle.text.specs.Bytes.{bytes}
 use Rattle.arith.proofs.Ring.{both-left, both-right}
 use Rattle.lines.specs.Reader.{sameKey}
 use Rattle.formulas.specs.Items.{shuttle, heats}
-use Rattle.formulas.specs.Report.{lines, keys}
+use Rattle.formulas.specs.Report.{lines, lineCount, keys, heatKeys}
+use Rattle.report.specs.Lengths.{keyMost}
 
 -- as the code has them
 abbrev letters : List ℕ
@@ -30,13 +31,13 @@ cut i = take (start (i + 1) - start i) (drop (start i) letters)
 -- what is asked of the table at i
 right : ℕ → Bool
 unfolding keys lines heats
-right i = leb (start i) (start (i + 1)) && (leb (start (i + 1)) 59 && (leb (start (i + 1) - start i) 7 && sameKey (cut i) (getD (keys shuttle) i [])))
+right i = leb (start i) (start (i + 1)) && (leb (start (i + 1)) (length letters) && (leb (start (i + 1) - start i) keyMost && sameKey (cut i) (getD (keys shuttle) i [])))
 
 each : ℕ → Bool
 each zero = true
 each (suc n) = right n && each n
 
-all-right : T (each 20)
+all-right : T (each (lineCount shuttle))
 unfolding right each keys lines heats
 all-right = tt
 
@@ -53,27 +54,37 @@ same-is (x ∷ a) (y ∷ b) h = ap₂ (λ (z : ℕ) (l : List ℕ). z ∷ l) (eq
 
 pub record Key (i : ℕ) : Type 0 where
   pub order : start i ≤ start (i + 1)
-  pub within : start (i + 1) ≤ 59
-  pub short : start (i + 1) - start i ≤ 7
+  pub within : start (i + 1) ≤ length letters
+  pub short : start (i + 1) - start i ≤ keyMost
   pub key : cut i ≡ getD (keys shuttle) i []
   pub size : length (getD (keys shuttle) i []) ≡ start (i + 1) - start i
 
-pub key-at : (i : ℕ) → i < 20 → Key i
+pub key-at : (i : ℕ) → i < lineCount shuttle → Key i
 unfolding right
 key-at i h =
     let a = leb (start i) (start (i + 1)) in
-    let b = leb (start (i + 1)) 59 in
-    let c = leb (start (i + 1) - start i) 7 in
+    let b = leb (start (i + 1)) (length letters) in
+    let c = leb (start (i + 1) - start i) keyMost in
     let d = sameKey (cut i) (getD (keys shuttle) i []) in
-    let r = each-at 20 all-right i h in
+    let r = each-at (lineCount shuttle) all-right i h in
     let s = both-right a (b && (c && d)) r in
     let t = both-right b (c && d) s in
-    let within = leb→le (start (i + 1)) 59 (both-left b (c && d) s) in
+    let within = leb→le (start (i + 1)) (length letters) (both-left b (c && d) s) in
     let key = same-is (cut i) (getD (keys shuttle) i []) (both-right c d t) in
     record {
       order = leb→le (start i) (start (i + 1)) (both-left a (b && (c && d)) r);
       within = within;
-      short = leb→le (start (i + 1) - start i) 7 (both-left c d t);
+      short = leb→le (start (i + 1) - start i) keyMost (both-left c d t);
       key = key;
       size = sym (ap length key) ∙ simp (length-take, length-drop) (omega arith);
     }
+
+-- a key for each line
+pub keys-count : length (keys shuttle) ≡ lineCount shuttle
+unfolding keys lines heats
+keys-count = refl
+
+-- behind the firing's are those of the heats
+pub heat-keys : drop 1 (keys shuttle) ≡ heatKeys shuttle ++ (bytes "eff1" ∷ bytes "eff2" ∷ [])
+unfolding keys lines heats heatKeys
+heat-keys = refl

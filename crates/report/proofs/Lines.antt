@@ -1,55 +1,48 @@
--- The report line by line: the first lines, and one line more. Assumes nothing.
+-- The report line by line: the lines of the first figures, and one line more. Assumes nothing.
 use Prim.Native.Nat.{ℕ, zero, suc, _+_, _≤_, _<_}
 use mathlib.Core.Path.{_≡_, refl, sym, ap, _∙_}
 use mathlib.Core.List.{List, [], _∷_, _++_, append-assoc, append-nil}
 use native.Mathlib.Omega.{arith}
 use native.Mathlib.Numerals.{add-one}
 use lib.ListN.{length, getD, take, drop, length-append}
-use lib.Seq.{take-all}
 use lib.IntN.{ℤ}
 use Rattle.text.specs.Decimal.{line}
-use Rattle.formulas.specs.Items.{shuttle, heats}
-use Rattle.formulas.specs.Report.{lines, keys, linesText}
+use Rattle.formulas.specs.Report.{linesText}
+
+-- no figure has no line
+pub no-lines : (ks : List (List ℕ)) → linesText ks [] ≡ []
+unfolding linesText
+no-lines [] = refl
+no-lines (k ∷ ks) = refl
 
 more : (i : ℕ) (ks : List (List ℕ)) (zs : List ℤ) (z : ℤ) → i < length ks → i < length zs →
-    linesText (take (suc i) ks) (take (suc i) zs) ≡ linesText (take i ks) (take i zs) ++ line (getD ks i []) (getD zs i z)
+    linesText ks (take (suc i) zs) ≡ linesText ks (take i zs) ++ line (getD ks i []) (getD zs i z)
 unfolding linesText
 more i [] zs z h g = absurd (omega arith)
 more i (k ∷ ks) [] z h g = absurd (omega arith)
-more zero (k ∷ ks) (y ∷ zs) z h g = append-nil (line k y)
+more zero (k ∷ ks) (y ∷ zs) z h g = rw (no-lines ks) (append-nil (line k y))
 more (suc i) (k ∷ ks) (y ∷ zs) z h g = rw (more i ks zs z (omega arith) (omega arith), append-assoc)
 
-none : (ks : List (List ℕ)) → linesText ks [] ≡ []
+split : (i : ℕ) (ks : List (List ℕ)) (zs : List ℤ) → linesText ks zs ≡ linesText ks (take i zs) ++ linesText (drop i ks) (drop i zs)
 unfolding linesText
-none [] = refl
-none (k ∷ ks) = refl
-
-split : (i : ℕ) (ks : List (List ℕ)) (zs : List ℤ) → linesText ks zs ≡ linesText (take i ks) (take i zs) ++ linesText (drop i ks) (drop i zs)
-unfolding linesText
-split zero ks zs = refl
+split zero ks zs = rw (no-lines ks) refl
 split (suc i) [] zs = refl
-split (suc i) (k ∷ ks) [] = sym (none (drop i ks))
+split (suc i) (k ∷ ks) [] = sym (no-lines (drop i ks))
 split (suc i) (k ∷ ks) (y ∷ zs) = rw (split i ks zs, append-assoc)
 
--- the first i lines
-unfoldable pub firstLines : ℕ → List ℤ → List ℕ
-firstLines i zs = linesText (take i (keys shuttle)) (take i zs)
+-- keys behind the last figure write nothing
+pub keys-behind : (ks ls : List (List ℕ)) (zs : List ℤ) → length zs ≤ length ks → linesText (ks ++ ls) zs ≡ linesText ks zs
+unfolding linesText
+keys-behind ks ls [] h = no-lines (ks ++ ls) ∙ sym (no-lines ks)
+keys-behind [] ls (z ∷ zs) h = absurd (omega arith)
+keys-behind (k ∷ ks) ls (z ∷ zs) h = ap (λ (t : List ℕ). line k z ++ t) (keys-behind ks ls zs (omega arith))
 
-pub no-lines : (zs : List ℤ) → firstLines 0 zs ≡ []
-unfolding firstLines linesText
-no-lines zs = refl
+module _ (ks : List (List ℕ)) (zs : List ℤ) where
+  pub one-more : (i : ℕ) (z : ℤ) → i < length ks → i < length zs → linesText ks (take (i + 1) zs) ≡ linesText ks (take i zs) ++ line (getD ks i []) (getD zs i z)
+  one-more i z h g = rw add-one (more i ks zs z h g)
 
-pub all-lines : (zs : List ℤ) → length zs ≡ 20 → firstLines 20 zs ≡ linesText (keys shuttle) zs
-unfolding firstLines keys lines heats
-all-lines zs e = rw (take-all 20 zs (omega arith))
+  pub longer : (i : ℕ) (z : ℤ) → i < length ks → i < length zs → length (linesText ks (take (i + 1) zs)) ≡ length (linesText ks (take i zs)) + length (line (getD ks i []) (getD zs i z))
+  longer i z h g = ap length (one-more i z h g) ∙ length-append (linesText ks (take i zs)) (line (getD ks i []) (getD zs i z))
 
-pub one-more : (i : ℕ) (zs : List ℤ) (z : ℤ) → length zs ≡ 20 → i < 20 → firstLines (i + 1) zs ≡ firstLines i zs ++ line (getD (keys shuttle) i []) (getD zs i z)
-unfolding firstLines keys lines heats
-one-more i zs z e h = rw add-one (more i (keys shuttle) zs z h (omega arith))
-
-pub longer : (i : ℕ) (zs : List ℤ) (z : ℤ) → length zs ≡ 20 → i < 20 → length (firstLines (i + 1) zs) ≡ length (firstLines i zs) + length (line (getD (keys shuttle) i []) (getD zs i z))
-longer i zs z e h = ap length (one-more i zs z e h) ∙ length-append (firstLines i zs) (line (getD (keys shuttle) i []) (getD zs i z))
-
-pub not-longer : (i : ℕ) (zs : List ℤ) → length (firstLines i zs) ≤ length (linesText (keys shuttle) zs)
-unfolding firstLines
-not-longer i zs = omega (arith, ap length (split i (keys shuttle) zs) ∙ length-append (linesText (take i (keys shuttle)) (take i zs)) (linesText (drop i (keys shuttle)) (drop i zs)))
+  pub not-longer : (i : ℕ) → length (linesText ks (take i zs)) ≤ length (linesText ks zs)
+  not-longer i = omega (arith, ap length (split i ks zs) ∙ length-append (linesText ks (take i zs)) (linesText (drop i ks) (drop i zs)))

@@ -1,6 +1,6 @@
 -- A figure found from whole joules is the one that the definitions print. Assumes nothing.
-use Prim.Native.Nat.{ℕ, zero, suc, _+_, _*_, _<_}
-use mathlib.Core.Path.{_≡_, refl, sym, ap, _∙_}
+use Prim.Native.Nat.{ℕ, zero, suc, _+_, _-_, _*_, _<_}
+use mathlib.Core.Path.{_≡_, refl, sym, ap, ap₂, _∙_}
 use mathlib.Core.List.{List, [], _∷_, _++_, map}
 use native.Mathlib.Nat.{mul-comm, lt-of-le-of-lt, le-of-suc-le-suc, not-suc-le-zero}
 use native.Mathlib.Numerals.{add-one}
@@ -22,10 +22,10 @@ use Rattle.sheet.specs.Firing.{Firing}
 use Rattle.lines.specs.Limits.{Limits}
 use Rattle.formulas.specs.Rounding.{paper}
 use Rattle.formulas.specs.Formulas.{joule, totalGas, q1, useful, withset}
-use Rattle.formulas.specs.Items.{Quantity, Item, item, shuttle, heats}
-use Rattle.formulas.specs.Report.{Line, heat, share, itemLine, shares, lines, printed, figures}
+use Rattle.formulas.specs.Items.{Quantity, Item, item, shuttle, heats, heatCount}
+use Rattle.formulas.specs.Report.{Line, heat, share, itemLine, shares, lines, lineCount, printed, figures, joules}
 use Rattle.formulas.specs.Figures.{Is}
-use Rattle.heat.specs.Balance.{Heat, Laid, greatest}
+use Rattle.heat.specs.Balance.{Heat, Laid, Balanced, greatest}
 use Rattle.formulas.proofs.Units.{units, only}
 use Rattle.formulas.proofs.Sums.{sum-of}
 use Rattle.formulas.proofs.Sizes.{within, fit}
@@ -49,6 +49,22 @@ fuel-some {f} {n = n} h p =
 product-some : {f : Firing} → Limits f → pos 0 <ℤ f .product
 product-some {f} h = under (f .product ∷ []) 0 (leq 1 (# 1000) (v 0) ∷ []) (# 0) (v 0) tt (h .product .low)
 
+-- ---- the places of the heats that the efficiencies are formed from, and of these
+abbrev pub fuel-at : ℕ
+fuel-at = 0
+
+abbrev pub useful-at : ℕ
+useful-at = heatCount shuttle - 2
+
+abbrev pub withset-at : ℕ
+withset-at = heatCount shuttle - 1
+
+abbrev pub eff1-at : ℕ
+eff1-at = lineCount shuttle - 2
+
+abbrev pub eff2-at : ℕ
+eff2-at = lineCount shuttle - 1
+
 -- ---- the heats in their places
 no-item : Item
 no-item = item "" q1
@@ -60,6 +76,20 @@ laid-at f (x ∷ l) [] i p h = absurd p
 laid-at f (x ∷ l) (n ∷ ns) zero p h = p .0
 laid-at f (x ∷ l) (n ∷ ns) (suc i) p h = laid-at f l ns i (p .1) (le-of-suc-le-suc h)
 
+-- THEY ARE THOSE THAT ARE PRINTED AS THEY ARE
+whole : {n x : ℤ} → Is joule n x → n ≡ nearest x joule
+whole {n} p = sym (nearest-exact n (lit< tt)) ∙ ap (λ (z : ℤ). nearest z joule) (ring (n ∷ pos joule ∷ []) (v 1 ⊗ v 0) (v 0 ⊗ v 1) tt ∙ sym (p .is))
+
+laid-are : (f : Firing) (l : List Item) (ns : List ℤ) → Laid f l ns → ns ≡ map (λ x. nearest (x .heat f paper) joule) l
+laid-are f [] [] p = refl
+laid-are f [] (n ∷ ns) p = absurd p
+laid-are f (x ∷ l) [] p = absurd p
+laid-are f (x ∷ l) (n ∷ ns) p = ap₂ (λ (z : ℤ) (m : List ℤ). z ∷ m) (whole (p .0 .is)) (laid-are f l ns (p .1))
+
+pub joules-are : (f : Firing) (ns : List ℤ) → Balanced f ns → ns ≡ joules f
+unfolding joules
+joules-are f ns p = laid-are f (heats shuttle) ns p
+
 -- and their lines
 line-at : (f : Firing) (l : List Item) (m : List Line) (i : ℕ) → i < length l →
     printed f (heat (getD l i no-item .heat)) ≡ getD (map (λ x. printed f (x .figure)) (map itemLine l ++ m)) i (pos 0)
@@ -69,22 +99,22 @@ line-at f (x ∷ l) m (suc i) h = line-at f l m i (le-of-suc-le-suc h)
 
 module _ {f : Firing} {number product : ℤ} {ns : List ℤ} (p : Found f number product ns) where
   -- the joules in a place, as they are read
-  abbrev joules : ℕ → ℤ
-  joules i = toZ w64 (ofZ w64 (getD ns i (pos 0)))
+  abbrev read-at : ℕ → ℤ
+  read-at i = toZ w64 (ofZ w64 (getD ns i (pos 0)))
 
-  read : (i : ℕ) → i < 17 → Heat (getD (heats shuttle) i no-item .heat) f greatest (joules i)
+  read : (i : ℕ) → i < heatCount shuttle → Heat (getD (heats shuttle) i no-item .heat) f greatest (read-at i)
   unfolding heats
   read i h = let a = laid-at f (heats shuttle) ns i (p .balanced) h in rw (toZ-ofZ (sfits-abs (lt-of-le-of-lt (a .size .size) (lit< tt)))) a
 
-  fuel : Heat q1 f greatest (joules 0)
+  fuel : Heat q1 f greatest (read-at fuel-at)
   unfolding heats
-  fuel = read 0 (lit< tt)
+  fuel = read fuel-at (lit< tt)
 
   -- nothing overflows, and nothing is divided by zero
-  pub per-tonne-can : (i : ℕ) → i < 17 → Divides 10 (joules i) product
+  pub per-tonne-can : (i : ℕ) → i < heatCount shuttle → Divides 10 (read-at i) product
   per-tonne-can i h = record { fits = fit (within (read i h .size) ∷ []) (raw 0 ⟨*⟩ num (pos 10)) tt; some = rw (p .is-product) (product-some (p .limits)) }
 
-  pub of-fuel-can : (i : ℕ) → i < 17 → Divides 10000 (joules i) (joules 0)
+  pub of-fuel-can : (i : ℕ) → i < heatCount shuttle → Divides 10000 (read-at i) (read-at fuel-at)
   of-fuel-can i h = record { fits = fit (within (read i h .size) ∷ []) (raw 0 ⟨*⟩ num (pos 10000)) tt; some = fuel-some (p .limits) fuel }
 
   -- the figures
@@ -92,30 +122,30 @@ module _ {f : Firing} {number product : ℤ} {ns : List ℤ} (p : Found f number
   unfolding figures lines printed
   number-is = p .is-number ∙ sym (nearest-exact (f .number) (lit< tt)) ∙ ap (λ (z : ℤ). nearest z 1) (one-*ℤ (f .number))
 
-  pub per-tonne-is : (i : ℕ) → i < 17 → nearest (joules i *ℤ pos 10) (natAbs product) ≡ getD (figures f) (i + 1) (pos 0)
+  pub per-tonne-is : (i : ℕ) → i < heatCount shuttle → nearest (read-at i *ℤ pos 10) (natAbs product) ≡ getD (figures f) (i + 1) (pos 0)
   unfolding figures lines printed heats
   per-tonne-is i h =
       rw add-one
-      (ap (λ (z : ℤ). nearest (joules i *ℤ pos 10) (natAbs z)) (p .is-product)
+      (ap (λ (z : ℤ). nearest (read-at i *ℤ pos 10) (natAbs z)) (p .is-product)
       ∙ over 10 (natAbs (f .product)) (read i h .is)
       ∙ line-at f (heats shuttle) shares i h)
 
-  of-fuel-is : (q : Quantity) {n : ℤ} → Heat q f greatest n → nearest (n *ℤ pos 10000) (natAbs (joules 0)) ≡ printed f (share q)
+  of-fuel-is : (q : Quantity) {n : ℤ} → Heat q f greatest n → nearest (n *ℤ pos 10000) (natAbs (read-at fuel-at)) ≡ printed f (share q)
   unfolding printed
   of-fuel-is q h =
-      let m = joules 0 in
+      let m = read-at fuel-at in
       let e : natAbs (q1 f paper) ≡ joule * natAbs m = ap natAbs (fuel .is .is) ∙ abs-mul m (pos joule) ∙ mul-comm (natAbs m) joule in
       over 10000 (natAbs m) (h .is) ∙ ap (λ (d : ℕ). nearest (q f paper *ℤ pos 10000) d) (sym e)
 
-  pub eff1-is : nearest (joules 15 *ℤ pos 10000) (natAbs (joules 0)) ≡ getD (figures f) 18 (pos 0)
+  pub eff1-is : nearest (read-at useful-at *ℤ pos 10000) (natAbs (read-at fuel-at)) ≡ getD (figures f) eff1-at (pos 0)
   unfolding figures lines heats
-  eff1-is = of-fuel-is useful (read 15 (lit< tt))
+  eff1-is = of-fuel-is useful (read useful-at (lit< tt))
 
-  pub eff2-is : nearest (joules 16 *ℤ pos 10000) (natAbs (joules 0)) ≡ getD (figures f) 19 (pos 0)
+  pub eff2-is : nearest (read-at withset-at *ℤ pos 10000) (natAbs (read-at fuel-at)) ≡ getD (figures f) eff2-at (pos 0)
   unfolding figures lines heats
-  eff2-is = of-fuel-is withset (read 16 (lit< tt))
+  eff2-is = of-fuel-is withset (read withset-at (lit< tt))
 
--- twenty
-pub figures-long : (f : Firing) → length (figures f) ≡ 20
+-- one for each line
+pub figures-long : (f : Firing) → length (figures f) ≡ lineCount shuttle
 unfolding figures lines heats
 figures-long f = refl

@@ -5,7 +5,16 @@ ghost use Rattle.arith.specs.Nearest.{nearest};
 ghost use Rattle.sheet.specs.Firing.{Firing};
 ghost use Rattle.formulas.specs.Report.{figures as figuresOf};
 ghost use Rattle.report.specs.Figures.{Divides, Found};
+use crate::EFF1;
+use crate::EFF2;
+use crate::FIRING;
+use crate::FIRST_HEAT;
+use crate::LINES;
 use arith::nearest;
+use heat::HEATS;
+use heat::Q1;
+use heat::USEFUL;
+use heat::WITHSET;
 use quantity::mass::Product;
 use quantity::sheet::FiringNumber;
 
@@ -26,18 +35,18 @@ fn of_fuel(heat: i64, q1: i64) -> i64
 }
 
 // The figures of a firing whose heats are found, in the report's order: its number, every heat per tonne, and the two efficiencies.
-pub fn figures(number: FiringNumber, product: Product, heats: [i64; 17]) -> [i64; 20]
+pub fn figures(number: FiringNumber, product: Product, heats: [i64; HEATS]) -> [i64; LINES]
     requires { ⌜ ((f : Firing) × Found f (number .0) (product .0) heats) ⌝ }
     ensures { λ r. ⌜ ((f : Firing) → Found f (number .0) (product .0) heats → r ≡ figuresOf f) ⌝ }
 {
-    let mut out = [0i64; 20];
-    out[0] = number.0 as i64;
+    let mut out = [0i64; LINES];
+    out[FIRING] = number.0 as i64;
     let mut i = 0;
-    while i < 17 {
-        out[i + 1] = per_tonne(heats[i], product);
+    while i < HEATS {
+        out[i + FIRST_HEAT] = per_tonne(heats[i], product);
         i += 1;
     }
-    out[18] = of_fuel(heats[15], heats[0]);
-    out[19] = of_fuel(heats[16], heats[0]);
+    out[EFF1] = of_fuel(heats[USEFUL], heats[Q1]);
+    out[EFF2] = of_fuel(heats[WITHSET], heats[Q1]);
     out
 }

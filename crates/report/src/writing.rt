@@ -3,16 +3,26 @@ ghost use mathlib.Core.Path.{_≡_};
 ghost use Prim.Native.Nat.{_+_, _≤_, _<_};
 ghost use mathlib.Core.List.{[]};
 ghost use lib.Dec.{leb};
-ghost use lib.ListN.{length, getD};
+ghost use lib.ListN.{length, getD, drop};
 ghost use Rattle.text.specs.Decimal.{line};
 ghost use Rattle.pen.specs.Writing.{Written};
 ghost use Rattle.formulas.specs.Items.{shuttle};
-ghost use Rattle.formulas.specs.Report.{keys, linesText};
+ghost use Rattle.formulas.specs.Report.{keys, heatKeys, lineCount, linesText};
+ghost use Rattle.report.specs.Lengths.{lineMost, reportMost, heatsMost};
+use crate::FIRST_HEAT;
+use crate::LINES;
+use heat::HEATS;
+
+// No line is longer, whatever its figure.
+const LINE_MOST: usize = 30;
+
+// No report is longer.
+const MOST: usize = LINES * LINE_MOST;
 
 // The keys, one after the other, and where each begins.
 const KEYS: [u8; 59] = *b"firingq1q2q3q5q8inx1x2x3x5x7x8x9x10x11usefulwithseteff1eff2";
 
-const STARTS: [usize; 21] = [
+const STARTS: [usize; LINES + 1] = [
     0,
     6,
     8,
@@ -38,22 +48,22 @@ const STARTS: [usize; 21] = [
 
 // How long one line is, by its number.
 fn line_length(i: usize, figure: i64) -> usize
-    requires { ⌜ i < 20 ⌝ }
+    requires { ⌜ i < lineCount shuttle ⌝ }
     ensures { λ r. ⌜ r ≡ length (line (getD (keys shuttle) i []) figure) ⌝ }
-    ensures { λ r. ⌜ r ≤ 30 ⌝ }
+    ensures { λ r. ⌜ r ≤ lineMost ⌝ }
 {
     let key = STARTS[i + 1] - STARTS[i];
     key + pen::width(figure) + 2
 }
 
-// How long the report is; no report is longer than 600 bytes.
-fn length(figures: [i64; 20]) -> usize
+// How long the report is.
+fn length(figures: [i64; LINES]) -> usize
     ensures { λ r. ⌜ r ≡ length (linesText (keys shuttle) figures) ⌝ }
-    ensures { λ r. ⌜ r ≤ 600 ⌝ }
+    ensures { λ r. ⌜ r ≤ reportMost ⌝ }
 {
     let mut n = 0;
     let mut i = 0;
-    while i < 20 {
+    while i < LINES {
         n += line_length(i, figures[i]);
         i += 1;
     }
@@ -61,30 +71,49 @@ fn length(figures: [i64; 20]) -> usize
 }
 
 // Whether the report has room, which need not be measured where any report has.
-pub fn fits(figures: [i64; 20], room: usize) -> bool
+pub fn fits(figures: [i64; LINES], room: usize) -> bool
     ensures { λ r. ⌜ r ≡ leb (length (linesText (keys shuttle) figures)) room ⌝ }
-    ensures { λ _. ⌜ length (linesText (keys shuttle) figures) ≤ 600 ⌝ }
+    ensures { λ _. ⌜ length (linesText (keys shuttle) figures) ≤ reportMost ⌝ }
 {
-    if 600 <= room {
+    if MOST <= room {
         return true;
     }
     length(figures) <= room
 }
 
-// Puts the report at the front, and answers how long it is.
-pub fn write(out: &mut [u8], figures: [i64; 20]) -> usize
-    requires { ⌜ length (linesText (keys shuttle) figures) ≤ length (now out) ⌝ }
-    ensures { λ r. ⌜ Written 0 (linesText (keys shuttle) figures) (now (out .entry)) (now (out .exit)) r ⌝ }
+// Puts a line for each figure at the front, from the line of that number on, and answers how long they are.
+fn write_from(out: &mut [u8], first: usize, figures: &[i64]) -> usize
+    requires { ⌜ first + length (now figures) ≤ lineCount shuttle ⌝ }
+    requires { ⌜ length (linesText (drop first (keys shuttle)) (now figures)) ≤ length (now out) ⌝ }
+    ensures { λ r. ⌜ Written 0 (linesText (drop first (keys shuttle)) (now (figures .entry))) (now (out .entry)) (now (out .exit)) r ⌝ }
 {
     let keys = KEYS;
     let starts = STARTS;
     let mut at = 0;
     let mut i = 0;
-    while i < 20 {
-        let start = starts[i];
-        let end = starts[i + 1];
+    while i < figures.len() {
+        let line = first + i;
+        let start = starts[line];
+        let end = starts[line + 1];
         at = pen::line_at(out, at, &keys[start..end], figures[i]);
         i += 1;
     }
     at
+}
+
+// Puts the report at the front, and answers how long it is.
+pub fn write(out: &mut [u8], figures: [i64; LINES]) -> usize
+    requires { ⌜ length (linesText (keys shuttle) figures) ≤ length (now out) ⌝ }
+    ensures { λ r. ⌜ Written 0 (linesText (keys shuttle) figures) (now (out .entry)) (now (out .exit)) r ⌝ }
+{
+    write_from(out, 0, &figures)
+}
+
+// Puts the heats in joules at the front, under their keys in the report, and answers how long their lines are.
+pub fn write_heats(out: &mut [u8], heats: [i64; HEATS]) -> usize
+    requires { ⌜ heatsMost ≤ length (now out) ⌝ }
+    ensures { λ r. ⌜ Written 0 (linesText (heatKeys shuttle) heats) (now (out .entry)) (now (out .exit)) r ⌝ }
+    ensures { λ r. ⌜ r ≤ heatsMost ⌝ }
+{
+    write_from(out, FIRST_HEAT, &heats)
 }

@@ -12,22 +12,23 @@ use mir.Val.{SFits, toZ, ofZ}
 use mir.Facts.{toZ-ofZ}
 use Rattle.quantity.proofs.Casts.{widened, widens}
 use Rattle.sheet.specs.Firing.{Firing}
-use Rattle.formulas.specs.Report.{figures}
+use Rattle.formulas.specs.Items.{shuttle, heatCount}
+use Rattle.formulas.specs.Report.{figures, lineCount}
 use Rattle.report.specs.Figures.{Found}
 use Rattle.report.proofs.Filling.{filled, full}
-use Rattle.report.proofs.Printing.{per-tonne-can, of-fuel-can, number-is, per-tonne-is, eff1-is, eff2-is, figures-long}
+use Rattle.report.proofs.Printing.{useful-at, withset-at, eff1-at, eff2-at, per-tonne-can, of-fuel-can, number-is, per-tonne-is, eff1-is, eff2-is, figures-long}
 use Rattle.report.proofs.joules.figures.Statement.{statement}
 use Rattle.report.proofs.joules.figures.Tie as tie
 
 abbrev Inv-loop : tie.InvT-loop
 Inv-loop product heats out₀ i₀ out i =
-    (i ≤ 17)
-    × (length heats ≡ 17)
-    × (length out ≡ 20)
+    (i ≤ heatCount shuttle)
+    × (length heats ≡ heatCount shuttle)
+    × (length out ≡ lineCount shuttle)
     × ((f : Firing) (n : ℤ) → Found f n (product .0) heats → take 1 out₀ ≡ take 1 (figures f) → take (i + 1) out ≡ take (i + 1) (figures f))
 
 abbrev μ-loop : tie.MeasureT-loop
-μ-loop product heats out₀ i₀ out i = 17 - i
+μ-loop product heats out₀ i₀ out i = heatCount shuttle - i
 
 narrow : (c : tie.After-struct-told Inv-loop μ-loop) → SFits w32 (c .before .before .args .number .0)
 narrow c = search needs
@@ -44,16 +45,16 @@ loop-again c =
     let z = toZ w64 (ofZ w64 (c .per-tonne .result)) in (
       omega arith,
       l .inv .1,
-      set-long ℤ (l .out) (l .i + 1) 20 z (l .inv .2),
+      set-long ℤ (l .out) (l .i + 1) (lineCount shuttle) z (l .inv .2),
       λ f n p first. filled (l .i + 1) (l .out) (figures f) z (omega arith) (omega (arith, figures-long f)) (l .inv .3 f n p first)
           (toZ-ofZ (sfits-of (c .per-tonne .ok)) ∙ c .per-tonne .ensures ∙ per-tonne-is p (l .i) (omega arith)),
     )
 
 of-fuel-requires : tie.Need-of-fuel-requires Inv-loop μ-loop
-of-fuel-requires c κs = of-fuel-can (c .before .before .before .before .before .before .pre .1) 15 (lit< tt)
+of-fuel-requires c κs = of-fuel-can (c .before .before .before .before .before .before .pre .1) useful-at (lit< tt)
 
 of-fuel-requires-2 : tie.Need-of-fuel-requires-2 Inv-loop μ-loop
-of-fuel-requires-2 c κs = of-fuel-can (c .before .before .before .before .before .before .before .before .before .pre .1) 16 (lit< tt)
+of-fuel-requires-2 c κs = of-fuel-can (c .before .before .before .before .before .before .before .before .before .pre .1) withset-at (lit< tt)
 
 returns : tie.Need-returns Inv-loop μ-loop
 returns c =
@@ -64,14 +65,14 @@ returns c =
     let y = toZ w64 (ofZ w64 (c .of-fuel2 .result)) in
     λ f p.
     let long = figures-long f in
-    let end : l .i ≡ 17 = omega arith in
+    let end : l .i ≡ heatCount shuttle = omega arith in
     let first = filled 0 (pos 0 ∷ []) (figures f) _ (lit< tt) (omega (arith, long)) refl (widened (narrow t) ∙ number-is p) in
     let heats = subst (λ (i : ℕ). take (i + 1) (l .out) ≡ take (i + 1) (figures f)) end (l .inv .3 f _ p first) in
-    let eff1 = filled 18 (l .out) (figures f) x (omega arith) (omega (arith, long)) heats (toZ-ofZ (sfits-of (a .of-fuel .ok)) ∙ a .of-fuel .ensures ∙ eff1-is p) in
-    let long1 = set-long ℤ (l .out) 18 20 x (l .inv .2) in
-    let eff2 = filled 19 (set (l .out) 18 x) (figures f) y (omega (arith, long1)) (omega (arith, long)) eff1
+    let eff1 = filled eff1-at (l .out) (figures f) x (omega arith) (omega (arith, long)) heats (toZ-ofZ (sfits-of (a .of-fuel .ok)) ∙ a .of-fuel .ensures ∙ eff1-is p) in
+    let long1 = set-long ℤ (l .out) eff1-at (lineCount shuttle) x (l .inv .2) in
+    let eff2 = filled eff2-at (set (l .out) eff1-at x) (figures f) y (omega (arith, long1)) (omega (arith, long)) eff1
     (toZ-ofZ (sfits-of (c .of-fuel2 .ok)) ∙ c .of-fuel2 .ensures ∙ eff2-is p) in
-    full 20 _ (figures f) (set-long ℤ (set (l .out) 18 x) 19 20 y long1) long eff2
+    full (lineCount shuttle) _ (figures f) (set-long ℤ (set (l .out) eff1-at x) eff2-at (lineCount shuttle) y long1) long eff2
 
 pub figures-spec : {M : Type 1} → statement M
 figures-spec =

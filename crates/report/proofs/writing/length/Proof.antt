@@ -3,26 +3,29 @@ use mathlib.Core.Path.{_≡_, sym, ap, _∙_}
 use mathlib.Core.List.{[]}
 use Prim.Native.Nat.{ℕ, _-_, _*_, _≤_}
 use native.Mathlib.Omega.{arith}
-use lib.ListN.{length, getD}
+use lib.ListN.{length, getD, take}
+use lib.Seq.{take-length}
 use lib.IntN.{ℤ, pos}
 use borrow.Author.Needs.{sfits-of}
 use mir.Syntax.{w64}
 use mir.Facts.{toZ-ofZ}
 use Rattle.text.specs.Decimal.{line}
 use Rattle.formulas.specs.Items.{shuttle}
-use Rattle.formulas.specs.Report.{keys}
-use Rattle.report.proofs.Lines.{firstLines, no-lines, longer, all-lines}
+use Rattle.formulas.specs.Report.{keys, lineCount, linesText}
+use Rattle.report.specs.Lengths.{lineMost}
+use Rattle.report.proofs.Keys.{keys-count}
+use Rattle.report.proofs.Lines.{no-lines, longer}
 use Rattle.report.proofs.writing.length.Statement.{statement}
 use Rattle.report.proofs.writing.length.Tie as tie
 
 abbrev Inv-loop : tie.InvT-loop
-Inv-loop figures n₀ i₀ n i = (i ≤ 20) × (length figures ≡ 20) × (n ≡ length (firstLines i figures)) × (n ≤ 30 * i)
+Inv-loop figures n₀ i₀ n i = (i ≤ lineCount shuttle) × (length figures ≡ lineCount shuttle) × (n ≡ length (linesText (keys shuttle) (take i figures))) × (n ≤ lineMost * i)
 
 abbrev μ-loop : tie.MeasureT-loop
-μ-loop figures n₀ i₀ n i = 20 - i
+μ-loop figures n₀ i₀ n i = lineCount shuttle - i
 
 loop-holds : tie.Need-loop-holds Inv-loop μ-loop
-loop-holds c = (omega arith, omega arith, sym (ap length (no-lines (c .args .t1))), omega arith)
+loop-holds c = (omega arith, omega arith, sym (ap length (no-lines (keys shuttle))), omega arith)
 
 mul-line-length : tie.Need-mul-line-length Inv-loop μ-loop
 mul-line-length c = omega arith
@@ -47,14 +50,15 @@ loop-again c =
     let l = c .before .before .before .loop in
     let zs = c .before .before .before .before .args .t1 in
     let e = ap (λ (z : ℤ). length (line (getD (keys shuttle) (l .i) []) z)) (toZ-ofZ {w = w64} {z = getD zs (l .i) (pos 0)} (sfits-of (c .before .line-length-arg .given))) in
-    let m = longer (l .i) zs (pos 0) (l .inv .1) (omega arith) in
+    let m = longer (keys shuttle) zs (l .i) (pos 0) (omega (arith, keys-count)) (omega arith) in
     (omega arith, l .inv .1, omega (arith, e, m), omega arith)
 
 returns : tie.Need-returns Inv-loop μ-loop
 returns c =
     let l = c .before .loop in
-    let end : l .i ≡ 20 = omega arith in
-    let all = ap (λ (k : ℕ). firstLines k (c .before .before .args .t1)) end ∙ all-lines (c .before .before .args .t1) (l .inv .1) in
+    let zs = c .before .before .args .t1 in
+    let end : l .i ≡ length zs = omega arith in
+    let all = ap (λ (k : ℕ). linesText (keys shuttle) (take k zs)) end ∙ ap (linesText (keys shuttle)) (take-length zs) in
     (l .inv .2 ∙ ap length all, omega arith)
 
 pub length-spec : {M : Type 1} → statement M
