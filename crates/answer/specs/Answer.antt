@@ -10,11 +10,12 @@ use Rattle.text.specs.Decimal.{decimal}
 use Rattle.pen.specs.Writing.{over}
 use Rattle.sheet.specs.declared.Refusal.the-variants.{Accepted, NoRoom}
 use Rattle.sheet.specs.Refusals.{number}
+use Rattle.sheet.specs.Firing.{Firing}
 use Rattle.lines.specs.Reader as lines
 use Rattle.lines.specs.Reader.{Refused, Good, readOf}
 use Rattle.lines.specs.Editions.{document}
 use Rattle.lines.specs.Rows.{firingOf}
-use Rattle.formulas.specs.Report.{report}
+use Rattle.formulas.specs.Report.{report, joulesText}
 use Rattle.answer.specs.declared.Answer.{Answer}
 
 -- a refusal by its number, with its line
@@ -45,13 +46,22 @@ answerOf s room = answered (readOf document s) room
 unfoldable pub bufferOf : List ℕ → List ℕ → List ℕ
 bufferOf s old = left (readOf document s) old
 
--- WHAT THE PROGRAM PRINTS: the report, or `refused=NUMBER,LINE` and LF
+-- WHAT A PROGRAM PRINTS: `refused=NUMBER,LINE` and LF, or a text of the firing
 abbrev pub refusedText : ℕ → ℕ → List ℕ
 refusedText refusal line = bytes "refused=" ++ (decimal (pos refusal) ++ (bytes "," ++ (decimal (pos line) ++ bytes "\n")))
 
-abbrev pub told : lines.Answer → List ℕ
-told (Refused x n) = refusedText (number x) n
-told (Good sheet) = report (firingOf sheet)
+-- no refusal's is longer
+abbrev pub refusedMost : ℕ
+refusedMost = 40
 
+abbrev pub told : (Firing → List ℕ) → lines.Answer → List ℕ
+told text (Refused x n) = refusedText (number x) n
+told text (Good sheet) = text (firingOf sheet)
+
+-- `balance` prints the report
 unfoldable pub printedOf : List ℕ → List ℕ
-printedOf s = told (readOf document s)
+printedOf s = told report (readOf document s)
+
+-- `joules` prints the heats in joules
+unfoldable pub joulesOf : List ℕ → List ℕ
+joulesOf s = told joulesText (readOf document s)

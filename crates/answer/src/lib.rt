@@ -1,11 +1,14 @@
-// The answer by its three numbers: a refusal, or a report that is put into a lent slice if it fits.
+// The answer by its three numbers: a refusal, or a report that is put into a lent slice if it fits; and a refusal as a program prints it.
 ghost use mathlib.Core.Path.{_≡_};
 ghost use Prim.Native.Nat.{_<_, _≤_, _^_};
 ghost use lib.ListN.{length};
+ghost use Rattle.pen.specs.Writing.{Written};
 ghost use Rattle.sheet.specs.Refusals.{number};
 ghost use Rattle.formulas.specs.Items.{shuttle};
 ghost use Rattle.formulas.specs.Report.{keys, linesText};
-ghost use Rattle.answer.specs.Answer.{refusedAs, fitted, placed};
+ghost use Rattle.report.specs.Lengths.{reportMost};
+ghost use Rattle.answer.specs.Answer.{refusedAs, fitted, placed, refusedText, refusedMost};
+use report::LINES;
 use sheet::Refusal;
 
 // A refusal's number and line, 0 and 0 where there is none, and the length of the report.
@@ -29,10 +32,10 @@ pub fn refused(why: Refusal, line: usize) -> Answer
 }
 
 // The report at the front of the room, if it fits. Its figures are known, and that it has room, before the first byte is written.
-pub fn reported(figures: [i64; 20], room: &mut [u8]) -> Answer
+pub fn reported(figures: [i64; LINES], room: &mut [u8]) -> Answer
     ensures { λ r. ⌜ r ≡ fitted (linesText (keys shuttle) figures) (length (now (room .entry))) ⌝ }
     ensures { λ _. ⌜ now (room .exit) ≡ placed (linesText (keys shuttle) figures) (now (room .entry)) ⌝ }
-    ensures { λ _. ⌜ length (linesText (keys shuttle) figures) ≤ 600 ⌝ }
+    ensures { λ _. ⌜ length (linesText (keys shuttle) figures) ≤ reportMost ⌝ }
 {
     if report::fits(figures, room.len()) {
         let length = report::write(room, figures);
@@ -43,4 +46,17 @@ pub fn reported(figures: [i64; 20], room: &mut [u8]) -> Answer
         };
     }
     refused(Refusal::NoRoom, 0)
+}
+
+// Puts `refused=NUMBER,LINE` and LF at the front, and answers how long it is.
+pub fn refusal_text(out: &mut [u8], refusal: u32, line: u32) -> usize
+    requires { ⌜ refusedMost ≤ length (now out) ⌝ }
+    ensures { λ r. ⌜ Written 0 (refusedText refusal line) (now (out .entry)) (now (out .exit)) r ⌝ }
+    ensures { λ r. ⌜ r ≤ refusedMost ⌝ }
+{
+    let a = pen::bytes_at(out, 0, b"refused=");
+    let b = pen::number_at(out, a, refusal as i64);
+    let c = pen::bytes_at(out, b, b",");
+    let d = pen::number_at(out, c, line as i64);
+    pen::bytes_at(out, d, b"\n")
 }

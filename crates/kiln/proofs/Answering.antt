@@ -10,6 +10,7 @@ use Rattle.lines.specs.Editions.{document}
 use Rattle.lines.specs.Rows.{firingOf}
 use Rattle.lines.proofs.Cases.{clash}
 use Rattle.formulas.specs.Report.{report}
+use Rattle.report.specs.Lengths.{reportMost}
 use Rattle.answer.specs.declared.Answer.{Answer}
 use Rattle.answer.specs.Answer.{refusedAs, fitted, placed, answerOf, bufferOf, refusedText, printedOf}
 use Rattle.kiln.specs.Steps.{Short}
@@ -35,8 +36,8 @@ module _ (s : List ℕ) {sheet : Sheet} (good : readOf document s ≡ Good sheet
   unfolding printedOf
   printed-good = rw good refl
 
-  pub short-good : length (report (firingOf sheet)) ≤ 600 → Short s
-  short-good h other e = let p : sheet ≡ other = cc in subst (λ (x : Sheet). length (report (firingOf x)) ≤ 600) p h
+  pub short-good : length (report (firingOf sheet)) ≤ reportMost → Short s
+  short-good h other e = let p : sheet ≡ other = cc in subst (λ (x : Sheet). length (report (firingOf x)) ≤ reportMost) p h
 
 -- A SHEET THAT IS REFUSED
 module _ (s : List ℕ) {x : Refusal} {n : ℕ} (bad : readOf document s ≡ Refused x n) where

@@ -12,21 +12,22 @@ use Rattle.lines.specs.Editions.{document}
 use Rattle.lines.specs.Rows.{firingOf}
 use Rattle.lines.proofs.Numbering.{refuses}
 use Rattle.formulas.specs.Report.{report}
+use Rattle.report.specs.Lengths.{reportMost}
 use Rattle.answer.specs.declared.Answer.{Answer}
 use Rattle.answer.specs.Answer.{answerOf, bufferOf, refusedText, printedOf}
 use Rattle.kiln.specs.Steps.{Short}
 use Rattle.answer.proofs.Fitting.{enough, at-front}
 use Rattle.kiln.proofs.Answering.{answer-good, buffer-good, printed-good, answer-bad, buffer-bad, printed-bad}
 
-module _ (s old new : List ℕ) (a : Answer) (short : Short s) (room : 600 ≤ length old) (is-answer : a ≡ answerOf s (length old)) (is-buffer : new ≡ bufferOf s old) where
+module _ (s old new : List ℕ) (a : Answer) (short : Short s) (room : reportMost ≤ length old) (is-answer : a ≡ answerOf s (length old)) (is-buffer : new ≡ bufferOf s old) where
   -- an accepted sheet's report has room
   good-answer : (sheet : Sheet) → readOf document s ≡ Good sheet → a ≡ record { refusal = 0; line = 0; length = length (report (firingOf sheet)) }
   good-answer sheet e = is-answer ∙ sym (enough (report (firingOf sheet)) (length old) (le-trans (short sheet e) room) refl ∙ answer-good s e (length old))
 
-  pub report-told : a .refusal ≡ 0 → Written 0 (printedOf s) old new (a .length) × (a .length ≤ 600)
+  pub report-told : a .refusal ≡ 0 → Written 0 (printedOf s) old new (a .length) × (a .length ≤ reportMost)
   report-told zero = here (readOf document s) refl
     where
-      here : (r : lines.Answer) → readOf document s ≡ r → Written 0 (printedOf s) old new (a .length) × (a .length ≤ 600)
+      here : (r : lines.Answer) → readOf document s ≡ r → Written 0 (printedOf s) old new (a .length) × (a .length ≤ reportMost)
       here (Refused x n) e = absurd (omega (arith, zero, ap (λ (y : Answer). y .refusal) (is-answer ∙ sym (answer-bad s e (length old))), refuses s x n e .named))
       here (Good sheet) e =
           let size = ap (λ (y : Answer). y .length) (good-answer sheet e) in

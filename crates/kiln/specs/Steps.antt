@@ -7,7 +7,8 @@ use Rattle.lines.specs.Reader.{Sheet, Good, readOf}
 use Rattle.lines.specs.Editions.{document}
 use Rattle.lines.specs.Rows.{firingOf}
 use Rattle.formulas.specs.Report.{report}
+use Rattle.report.specs.Lengths.{reportMost}
 
--- the report of an accepted sheet has no more than 600 bytes
+-- the report of an accepted sheet is no longer than the longest
 abbrev pub Short : List ℕ → Type 0
-Short s = (sheet : Sheet) → readOf document s ≡ Good sheet → length (report (firingOf sheet)) ≤ 600
+Short s = (sheet : Sheet) → readOf document s ≡ Good sheet → length (report (firingOf sheet)) ≤ reportMost

@@ -7,6 +7,7 @@ use Prim.Native.Nat.{ℕ, _≤_}
 use lib.ListN.{length, take}
 use lib.Seq.{length-take-le}
 use Rattle.pen.specs.Writing.{Written}
+use Rattle.report.specs.Lengths.{reportMost}
 use Rattle.answer.specs.Answer.{refusedText}
 use Rattle.kiln.proofs.Telling.{report-told, refusal-told}
 use Rattle.kiln.proofs.program.print.Statement.{statement}
@@ -19,7 +20,7 @@ returns : tie.Need-returns
 returns c =
     let r = c .before .before .answered in
     let s = c .before .before .before .before .before .before in
-    let size : 600 ≤ length (s .args .out .now) = omega arith in
+    let size : reportMost ≤ length (s .args .out .now) = omega arith in
     let told = report-told (take (s .args .n) (s .args .room .now)) (s .args .out .now) (r .last .1 .0) (r .result) (r .ensures .1 .1) size (r .ensures .0) (r .ensures .1 .0) (omega arith) in
     (told .0, omega (arith, told .1, size, r .kept .1 .0))
 
@@ -30,7 +31,7 @@ returns-2 : tie.Need-returns-2
 returns-2 c =
     let r = c .before .before .before .before .answered in
     let s = c .before .before .before .before .before .before .before .before in
-    let size : 600 ≤ length (s .args .out .now) = omega arith in
+    let size : reportMost ≤ length (s .args .out .now) = omega arith in
     let told = refusal-told (take (s .args .n) (s .args .room .now)) (s .args .out .now) (r .last .1 .0) (r .result) (r .ensures .1 .1) size (r .ensures .0) (r .ensures .1 .0) (omega arith) in
     (subst (λ (t : List ℕ). Written 0 t (s .args .out .now) (c .refusal-text .last .0) (c .refusal-text .result)) (told .0) (subst (λ (old : List ℕ). Written 0 (refusedText (r .result .refusal) (r .result .line)) old (c .refusal-text .last .0) (c .refusal-text .result)) (told .1) (c .refusal-text .ensures .0)), omega (arith, c .refusal-text .ensures .1, size, c .refusal-text .kept .0, ap length (told .1)))
 

@@ -14,9 +14,9 @@ use Rattle.text.specs.Decimal.{decimal}
 use Rattle.pen.specs.Writing.{Written}
 use Rattle.text.proofs.Decimal.{length-decimal}
 use Rattle.pen.proofs.Writing.{next}
 use Rattle.answer.specs.Answer.{refusedText}
-use Rattle.kiln.proofs.program.refusal_text.Statement.{statement}
-use Rattle.kiln.proofs.program.refusal_text.Tie as tie
+use Rattle.answer.proofs.refusal_text.Statement.{statement}
+use Rattle.answer.proofs.refusal_text.Tie as tie
 
 -- 32 bits as a call has them
 same : (n : ℕ) → n < 2 ^ 32 → toZ w64 n ≡ pos n
