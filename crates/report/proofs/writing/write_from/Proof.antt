@@ -100,6 +100,11 @@ turn c =
     let due : L c .loop .i < length (from (S c .args .first)) = omega (arith, keys-count, length-drop (S c .args .first) (keys shuttle)) in
     one-more (from (S c .args .first)) (S c .args .figures .now) (L c .loop .i) (pos 0) due (omega arith) ∙ ap (λ (l : List ℕ). before c ++ l) (sym (as-called c))
 
+loop-again : tie.Need-loop-again Inv-loop μ-loop
+loop-again c =
+    let d = c .before .before .before in
+    (omega arith, rw (turn d) (next (L d .loop .inv .1) (c .before .before .line-at .ensures)))
+
 line-at-requires : tie.Need-line-at-requires Inv-loop μ-loop
 line-at-requires c κs =
     let w = L c .loop .inv .1 in
@@ -113,11 +118,6 @@ add-i c = omega arith
 
 loop-less : tie.Need-loop-less Inv-loop μ-loop
 loop-less c = omega arith
-
-loop-again : tie.Need-loop-again Inv-loop μ-loop
-loop-again c =
-    let d = c .before .before .before in
-    (omega arith, rw (turn d) (next (L d .loop .inv .1) (c .before .before .line-at .ensures)))
 
 same-length : tie.Need-same-length Inv-loop μ-loop
 same-length c =

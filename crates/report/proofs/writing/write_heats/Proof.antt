@@ -27,17 +27,17 @@ most s = heats-in-room (s .args .t2) (s .good .1 .0 .0) (s .good .1 .0 .1 .1)
 same : (s : tie.Start) → linesText (drop 1 (keys shuttle)) (s .args .t2) ≡ linesText (heatKeys shuttle) (s .args .t2)
 same s = text (s .args .t2) (omega arith)
 
-write-from-requires : tie.Need-write-from-requires
-write-from-requires c κs =
-    let s = c .before .before .before in
-    (omega arith, omega (arith, ap length (same s), most s, s .pre))
-
 returns : tie.Need-returns
 returns c =
     let s = c .before .before .before .before .before .before in
     let w = c .before .before .write-from in
     let lines = subst (λ (t : List ℕ). Written 0 t (s .args .out .now) (w .last .0) (w .result)) (same s) (w .ensures) in
     (lines, omega (arith, lines .ends, most s))
+
+write-from-requires : tie.Need-write-from-requires
+write-from-requires c κs =
+    let s = c .before .before .before in
+    (omega arith, omega (arith, ap length (same s), most s, s .pre))
 
 pub write-heats-spec : {M : Type 1} → statement M
 write-heats-spec = tie.close (tie.spec (λ c. search needs) write-from-requires (λ c. search needs) returns)
