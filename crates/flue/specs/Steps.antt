@@ -11,6 +11,7 @@ use Rattle.lines.specs.Limits.{In, StageIn}
 use Rattle.formulas.specs.Rounding.{paper}
 use Rattle.formulas.specs.Formulas.{Burning, dryFlue}
 use Rattle.formulas.specs.Figures.{Within, Figure}
+use Rattle.formulas.specs.Sizes.{dryFlueMost, carriedMost}
 use Rattle.fuel.specs.Mixture.{BurningIn}
 
 pub record DryFits (excess dry air : ℤ) : Type 0 where
@@ -32,16 +33,18 @@ pub record BurnsIn (b : Burning) (s : Stage) : Type 0 where
 
 -- n hundred-thousandths of a cubic metre are the dry flue gas of a stage
 abbrev pub Volume : Burning → Stage → ℤ → Type 0
-Volume b s n = Figure (10 ^ 5) 304405200000 n (dryFlue paper b s)
+Volume b s n = Figure (10 ^ 5) dryFlueMost n (dryFlue paper b s)
 
 -- a stage, and so much dry flue gas as one can give
 pub record FilledIn (n : ℤ) (s : Stage) : Type 0 where
-  pub volume : Within 304405200000 n
+  pub volume : Within dryFlueMost n
   pub stage : StageIn s
 
+-- and its c: what has a size is c (flue − t), since a flue gas of greater c may leave colder
 pub record DryIn (n c : ℤ) (s : Stage) (t : ℤ) : Type 0 where
   pub filled : FilledIn n s
-  pub capacity : Within 1384 c
+  pub first : SFits w64 (n *ℤ c)
+  pub carried : Within carriedMost (c *ℤ (s .flue -ℤ t))
   pub ambient : In ambient t
 
 pub record MoistIn (b : Burning) (X : ℤ) (s : Stage) : Type 0 where

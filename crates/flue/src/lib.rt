@@ -8,8 +8,11 @@ ghost use Rattle.arith.specs.Nearest.{nearest};
 ghost use Rattle.sheet.specs.Firing.{Firing};
 ghost use Rattle.sheet.specs.Shown.{stage as stageOf};
 ghost use Rattle.formulas.specs.Rounding.{paper};
-ghost use Rattle.formulas.specs.Formulas.{joule, Burning as AnyBurning, burning as burningIn, vapourRate, vapour, dryHeat, vapourHeat, flueHeat, monoxideHeat, x7, x8};
+ghost use Rattle.formulas.specs.Formulas.{joule, Burning as AnyBurning, burning as burningIn, x7, x8};
+ghost use Rattle.formulas.specs.Formulas.{vapourRate, vapour, dryHeat, vapourHeat, flueHeat, monoxideHeat};
 ghost use Rattle.formulas.specs.Figures.{Figure};
+ghost use Rattle.formulas.specs.Sizes.{vapourRateMost, vapourMassMost, dryHeatMost, vapourHeatMost, flueHeatMost, monoxideHeatMost};
+ghost use Rattle.formulas.specs.Sizes.{x7Most, x8Most};
 ghost use Rattle.formulas.specs.Steps.{ProductFits, stagesOf};
 ghost use Rattle.fuel.specs.Mixture.{burning as burningOf};
 ghost use Rattle.flue.specs.Steps.{DryFits, RateFits, BurnsIn, Volume, FilledIn, DryIn, MoistIn, FlueIn, AllFlueIn};
@@ -59,7 +62,7 @@ impl DryExact {
 impl RateExact {
     // To the nearest 1e-9 kg.
     fn rounded(self) -> VapourRate
-        ensures { λ r. ⌜ r .0 ≡ nearest (self .0) 560000000 ⌝ }
+        ensures { λ r. ⌜ r .0 ≡ nearest (self .0) (56 * 10 ^ 7) ⌝ }
     {
         VapourRate(arith::nearest(self.0, 560_000_000))
     }
@@ -109,7 +112,7 @@ fn rate_exact(burning: Burning, moisture: Moisture, stage: Stage) -> RateExact
 // The vapour for a unit of fuel.
 fn vapour_rate(burning: Burning, moisture: Moisture, stage: Stage) -> VapourRate
     requires { ⌜ MoistIn (burningOf burning) (moisture .0) (stageOf stage) ⌝ }
-    ensures { λ r. ⌜ Figure (56 * 10 ^ 7) 14019212143 (r .0) (vapourRate paper (burningOf burning) (moisture .0) (stageOf stage)) ⌝ }
+    ensures { λ r. ⌜ Figure (56 * 10 ^ 7) vapourRateMost (r .0) (vapourRate paper (burningOf burning) (moisture .0) (stageOf stage)) ⌝ }
 {
     rate_exact(burning, moisture, stage).rounded()
 }
@@ -125,7 +128,7 @@ fn vapour_exact(rate: VapourRate, gas: CubicMetres) -> VapourExact
 // The vapour of a stage.
 fn vapour(burning: Burning, moisture: Moisture, stage: Stage) -> VapourMass
     requires { ⌜ MoistIn (burningOf burning) (moisture .0) (stageOf stage) ⌝ }
-    ensures { λ r. ⌜ Figure (56 * 10 ^ 11) 280384242860 (r .0) (vapour paper (burningOf burning) (moisture .0) (stageOf stage)) ⌝ }
+    ensures { λ r. ⌜ Figure (56 * 10 ^ 11) vapourMassMost (r .0) (vapour paper (burningOf burning) (moisture .0) (stageOf stage)) ⌝ }
 {
     vapour_exact(vapour_rate(burning, moisture, stage), stage.gas).rounded()
 }
@@ -141,7 +144,8 @@ fn dry_carried(volume: DryFlue, c: FlueCapacity, rise: Rise) -> Microjoules
 // The heat of a stage's dry flue gas.
 fn dry_heat(volume: DryFlue, c: FlueCapacity, stage: Stage, t: Degrees) -> Joules
     requires { ⌜ DryIn (volume .0) (c .0) (stageOf stage) (t .0) ⌝ }
-    ensures { λ r. ⌜ ((b : AnyBurning) → Volume b (stageOf stage) (volume .0) → Figure joule 5139820920960 (r .0) (dryHeat paper b (c .0) (t .0) (stageOf stage))) ⌝ }
+    ensures { λ r. ⌜ ((b : AnyBurning) → Volume b (stageOf stage) (volume .0) →
+        Figure joule dryHeatMost (r .0) (dryHeat paper b (c .0) (t .0) (stageOf stage))) ⌝ }
 {
     let rise = stage.flue.degrees().above(t);
     dry_carried(volume, c, rise).joules()
@@ -158,7 +162,7 @@ fn vapour_carried(mass: VapourMass, rise: Rise) -> Microjoules
 // The heat of a stage's vapour.
 fn vapour_heat(burning: Burning, moisture: Moisture, stage: Stage, t: Degrees) -> Joules
     requires { ⌜ FlueIn (burningOf burning) (moisture .0) (stageOf stage) (t .0) ⌝ }
-    ensures { λ r. ⌜ Figure joule 660192738239 (r .0) (vapourHeat paper (burningOf burning) (moisture .0) (t .0) (stageOf stage)) ⌝ }
+    ensures { λ r. ⌜ Figure joule vapourHeatMost (r .0) (vapourHeat paper (burningOf burning) (moisture .0) (t .0) (stageOf stage)) ⌝ }
 {
     let rise = stage.flue.degrees().above(t);
     vapour_carried(vapour(burning, moisture, stage), rise).joules()
@@ -175,7 +179,8 @@ fn unburnt(volume: DryFlue, co: CarbonMonoxide) -> Microjoules
 // Formula 23: the heat that a stage's carbon monoxide would have given.
 fn monoxide_heat(volume: DryFlue, stage: Stage) -> Joules
     requires { ⌜ FilledIn (volume .0) (stageOf stage) ⌝ }
-    ensures { λ r. ⌜ ((b : AnyBurning) → Volume b (stageOf stage) (volume .0) → Figure joule 3881166300000 (r .0) (monoxideHeat paper b (stageOf stage))) ⌝ }
+    ensures { λ r. ⌜ ((b : AnyBurning) → Volume b (stageOf stage) (volume .0) →
+        Figure joule monoxideHeatMost (r .0) (monoxideHeat paper b (stageOf stage))) ⌝ }
 {
     unburnt(volume, stage.co).joules()
 }
@@ -189,8 +194,8 @@ pub struct FlueHeats {
 // Both heats of a stage, from the dry flue gas that is worked once.
 fn stage_heats(burning: Burning, moisture: Moisture, stage: Stage, t: Degrees) -> FlueHeats
     requires { ⌜ FlueIn (burningOf burning) (moisture .0) (stageOf stage) (t .0) ⌝ }
-    ensures { λ r. ⌜ Figure joule 5800013659199 (r .x7 .0) (flueHeat paper (burningOf burning) (moisture .0) (t .0) (stageOf stage)) ⌝ }
-    ensures { λ r. ⌜ Figure joule 3881166300000 (r .x8 .0) (monoxideHeat paper (burningOf burning) (stageOf stage)) ⌝ }
+    ensures { λ r. ⌜ Figure joule flueHeatMost (r .x7 .0) (flueHeat paper (burningOf burning) (moisture .0) (t .0) (stageOf stage)) ⌝ }
+    ensures { λ r. ⌜ Figure joule monoxideHeatMost (r .x8 .0) (monoxideHeat paper (burningOf burning) (stageOf stage)) ⌝ }
 {
     let volume = dry_flue(burning, stage);
     let c = FlueCapacity(1384);
@@ -203,8 +208,10 @@ fn stage_heats(burning: Burning, moisture: Moisture, stage: Stage, t: Degrees) -
 // Both heats of all stages, in one loop: each loop over the array costs a copy of it.
 pub fn flue_heats(burning: Burning, moisture: Moisture, stages: Stages, t: Degrees) -> FlueHeats
     requires { ⌜ AllFlueIn (burningOf burning) (moisture .0) (stagesOf stages) (t .0) ⌝ }
-    ensures { λ r. ⌜ ((f : Firing) → burningIn f ≡ burningOf burning → f .moisture ≡ moisture .0 → f .stages ≡ stagesOf stages → f .ambient ≡ t .0 → Figure joule 69600163910388 (r .x7 .0) (x7 f paper)) ⌝ }
-    ensures { λ r. ⌜ ((f : Firing) → burningIn f ≡ burningOf burning → f .stages ≡ stagesOf stages → Figure joule 46573995600000 (r .x8 .0) (x8 f paper)) ⌝ }
+    ensures { λ r. ⌜ ((f : Firing) → burningIn f ≡ burningOf burning → f .moisture ≡ moisture .0 → f .stages ≡ stagesOf stages → f .ambient ≡ t .0 →
+        Figure joule x7Most (r .x7 .0) (x7 f paper)) ⌝ }
+    ensures { λ r. ⌜ ((f : Firing) → burningIn f ≡ burningOf burning → f .stages ≡ stagesOf stages →
+        Figure joule x8Most (r .x8 .0) (x8 f paper)) ⌝ }
 {
     let lines = stages.lines;
     let count = held(stages.count.0, 12);

@@ -84,16 +84,24 @@ pub at-most : {k B i : ℕ} {n x : ℤ} (most : ℕ) → i ≤ most → Running 
 at-most {B = B} most h p = record { is = p .is; size = record { size = le-trans (p .size) (mul-le-mul-right B h) } }
 
 -- the step of a loop over the lines
-pub summed : {A B : Type 0} (f : B → ℤ) (g : A → B) (l : List A) (d : A) {k most i : ℕ} {m n : ℤ} → i < length l → Running k most i m (first f g l i) → Figure k most n (f (g (getD l i d))) → Running k most (i + 1) (m +ℤ n) (first f g l (i + 1))
+pub summed : {A B : Type 0} (f : B → ℤ) (g : A → B) (l : List A) (d : A) {k most i : ℕ} {m n : ℤ} → i < length l →
+    Running k most i m (first f g l i) → Figure k most n (f (g (getD l i d))) → Running k most (i + 1) (m +ℤ n) (first f g l (i + 1))
 summed f g l d {k} {most} {i} {m} {n} h p q =
     subst (λ (x : ℤ). Running k most (i + 1) (m +ℤ n) x) (sym (ap (first f g l) (add-one i) ∙ next f g l i d h)) (more p q)
 
 -- the loop's end: all lines of the block
-pub blocked : {A B : Type 0} (f : B → ℤ) (g : A → B) (l : List A) (n most : ℕ) {k B₁ i : ℕ} {m : ℤ} → length l ≡ most → i ≡ min n most → Running k B₁ i m (first f g l i) → Figure k (most * B₁) m (sum f (map g (take n l)))
+pub blocked : {A B : Type 0} (f : B → ℤ) (g : A → B) (l : List A) (n most : ℕ) {k B₁ i : ℕ} {m : ℤ} → length l ≡ most → i ≡ min n most →
+    Running k B₁ i m (first f g l i) → Figure k (most * B₁) m (sum f (map g (take n l)))
 blocked {A} f g l n most {k} {B₁} {i} {m} long e p =
     let h : i ≤ most = omega arith in
     subst (λ (r : List A). Figure k (most * B₁) m (sum f (map g r))) (ap (λ (j : ℕ). take j l) e ∙ held l n long) (at-most most h p)
 
 -- what stands in an array where no stage was read
 abbrev pub blankStage : Stageˢ
-blankStage = record { gas = record { 0 = pos 0 }; excess = record { 0 = pos 0 }; flue = record { 0 = pos 0 }; co = record { 0 = pos 0 }; minutes = record { 0 = pos 0 } }
+blankStage = record {
+  gas = record { 0 = pos 0 };
+  excess = record { 0 = pos 0 };
+  flue = record { 0 = pos 0 };
+  co = record { 0 = pos 0 };
+  minutes = record { 0 = pos 0 };
+}

@@ -1,16 +1,16 @@
 -- The definitions' unit is finer than the code's: what the code finds in its own units, as a whole number of them, is what the definitions
 -- say. Each law follows one step of a formula. Assumes nothing.
-use Prim.Native.Nat.{ℕ, _+_, _*_, _≤_, _<_}
-use mathlib.Core.Path.{_≡_, refl, sym, ap, ap₂, _∙_, subst}
+use Prim.Native.Nat.{ℕ, _*_, _<_}
+use mathlib.Core.Path.{_≡_, refl, sym, ap, ap₂, _∙_}
 use mathlib.Core.List.{[], _∷_}
-use lib.IntN.{ℤ, pos, natAbs, _+ℤ_, _-ℤ_, _*ℤ_}
+use lib.IntN.{ℤ, pos, _+ℤ_, _-ℤ_, _*ℤ_}
 use lib.Signed.{_<ℤ_, ≤ℤ-refl}
 use Rattle.arith.specs.Nearest.{nearest}
 use Rattle.arith.proofs.Ring.{v, #, _⊕_, _⊖_, _⊗_, ring, ringℕ}
 use Rattle.arith.proofs.Order.{≤ℤ-antisym, *ℤ-cancel-≤}
-use Rattle.arith.proofs.NearestLaws.{nearest-scaled, nearest-bound}
+use Rattle.arith.proofs.NearestLaws.{nearest-scaled}
 use Rattle.formulas.specs.Rounding.{paper}
-use Rattle.formulas.specs.Figures.{Is, Within, Figure}
+use Rattle.formulas.specs.Figures.{Is}
 
 pub units : {k : ℕ} {n : ℤ} → Is k n (n *ℤ pos k)
 units = record { is = refl }
@@ -47,11 +47,6 @@ pub rounds : {n x : ℤ} (d k : ℕ) → 0 < k → Is k n x → Is (d * k) (near
 rounds {n} d k h p =
     record { is = ap (λ (z : ℤ). nearest z (d * k) *ℤ pos (d * k)) (p .is) ∙ ap (λ (z : ℤ). z *ℤ pos (d * k)) (scaled n d h) }
 
--- the code's figure j, whose size is at most B where what is rounded is at most N
-pub rounded : {n j x : ℤ} {N B : ℕ} (d k : ℕ) → 0 < k → 0 < d → Is k n x → Within N n → 2 * N < 2 * (d * B) + d → j ≡ nearest n d → Figure (d * k) B j (paper .to (d * k) x)
-rounded {n} {B = B} d k h g p l t e =
-    record { is = same e (rounds d k h p); size = record { size = subst (λ (z : ℤ). natAbs z ≤ B) (sym e) (nearest-bound n g (l .size) t) } }
-
 pub plus : {k : ℕ} {m n x y : ℤ} → Is k m x → Is k n y → Is k (m +ℤ n) (x +ℤ y)
 plus {k} {m} {n} p q = record { is = ap₂ _+ℤ_ (p .is) (q .is) ∙ ring (m ∷ n ∷ pos k ∷ []) (v 0 ⊗ v 2 ⊕ v 1 ⊗ v 2) ((v 0 ⊕ v 1) ⊗ v 2) tt }
 
@@ -61,5 +56,6 @@ minus {k} {m} {n} p q = record { is = ap₂ _-ℤ_ (p .is) (q .is) ∙ ring (m �
 -- no second number of units is the same
 pub only : {k : ℕ} {m n x : ℤ} → pos 0 <ℤ pos k → Is k m x → Is k n x → m ≡ n
 only {k} {m} {n} h p q =
-    let e : pos k *ℤ m ≡ pos k *ℤ n = ring (m ∷ pos k ∷ []) (v 1 ⊗ v 0) (v 0 ⊗ v 1) tt ∙ sym (p .is) ∙ q .is ∙ ring (n ∷ pos k ∷ []) (v 0 ⊗ v 1) (v 1 ⊗ v 0) tt in
+    let turned : (z : ℤ) → z *ℤ pos k ≡ pos k *ℤ z = λ z. ring (z ∷ pos k ∷ []) (v 0 ⊗ v 1) (v 1 ⊗ v 0) tt in
+    let e : pos k *ℤ m ≡ pos k *ℤ n = sym (turned m) ∙ sym (p .is) ∙ q .is ∙ turned n in
     ≤ℤ-antisym (*ℤ-cancel-≤ h (rw e (≤ℤ-refl (pos k *ℤ n)))) (*ℤ-cancel-≤ h (rw e (≤ℤ-refl (pos k *ℤ n))))

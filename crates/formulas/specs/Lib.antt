@@ -1,6 +1,7 @@
 pub mod Rounding
 pub mod Tables
 pub mod Formulas
+pub mod Sizes
 pub mod Items
 pub mod Report
 pub mod Marked

@@ -1,5 +1,6 @@
 // From exact products to whole joules.
 ghost use mathlib.Core.Path.{_≡_};
+ghost use Prim.Native.Nat.{_^_};
 ghost use Rattle.arith.specs.Nearest.{nearest};
 use quantity::heat::Joules;
 
@@ -21,7 +22,7 @@ pub struct Microjoules(pub i64);
 impl Microjoules {
     // Brought to the nearest whole joule.
     pub fn joules(self) -> Joules
-        ensures { λ r. ⌜ r .0 ≡ nearest (self .0) 1000000 ⌝ }
+        ensures { λ r. ⌜ r .0 ≡ nearest (self .0) (10 ^ 6) ⌝ }
     {
         Joules(arith::nearest(self.0, 1_000_000))
     }
@@ -33,7 +34,7 @@ pub struct Nanojoules(pub i64);
 impl Nanojoules {
     // Brought to the nearest whole joule.
     pub fn joules(self) -> Joules
-        ensures { λ r. ⌜ r .0 ≡ nearest (self .0) 1000000000 ⌝ }
+        ensures { λ r. ⌜ r .0 ≡ nearest (self .0) (10 ^ 9) ⌝ }
     {
         Joules(arith::nearest(self.0, 1_000_000_000))
     }

@@ -8,9 +8,11 @@ use native.Mathlib.Nat.{mul-le-mul, le-refl, le-of-suc-le-suc, not-suc-le-zero}
 use native.Mathlib.Numerals.{add-one}
 use native.Mathlib.Decide.{decLe}
 use native.Mathlib.Omega.{arith}
-use lib.Dec.{T, leb, leb→le, le→leb}
+use lib.Dec.{T, leb, leb→le, le→leb, ltb, ltb→lt}
 use lib.IntN.{ℤ, pos, natAbs, _+ℤ_, _-ℤ_, _*ℤ_}
 use lib.ListN.{length, getD, take, List·getD-map}
+use mir.Syntax.{w64}
+use mir.Val.{hbits}
 use Rattle.quantity.specs.declared.gas.Share.{Share}
 use Rattle.sheet.specs.Firing.{Gas}
 use Rattle.sheet.specs.Shown.{gas}
@@ -26,6 +28,7 @@ use Rattle.formulas.specs.declared.Kind.{Kind}
 use Rattle.formulas.specs.Tables.{tableA1, kind}
 use Rattle.formulas.specs.Formulas.{mixedHeat, theoreticalAir, dryOfGas, vapourOfGas, ofGas}
 use Rattle.formulas.specs.Figures.{Within}
+use Rattle.formulas.specs.Sizes.{most}
 use Rattle.fuel.specs.Mixture.{Fits}
 use Rattle.formulas.proofs.Sizes.{sized, entry}
 
@@ -159,9 +162,9 @@ module _ (W : ℕ) where
       let a : natAbs w * natAbs z ≤ W * natAbs z = mul-le-mul (leb→le _ _ (both-left (light w) (all light ws) t)) (le-refl (natAbs z)) in
       omega (arith, abs-add (w *ℤ z) (weigh ws zs), abs-mul w z, weigh-total ws zs (both-right (light w) (all light ws) t))
 
-  pub weigh-size : {g : Gas} (ws : List ℤ) (i : ℕ) → GasIn g → T (all light ws) → Within (W * 10000) (weigh (take i ws) (gasRow g .numbers))
+  pub weigh-size : {g : Gas} (ws : List ℤ) (i : ℕ) → GasIn g → T (all light ws) → Within (W * most share) (weigh (take i ws) (gasRow g .numbers))
   weigh-size {g} ws i h t =
-      let e : total (gasRow g .numbers) ≡ 10000 = ap natAbs (total-is (gasRow g .numbers) (h .each) ∙ h .sum) in
+      let e : total (gasRow g .numbers) ≡ most share = ap natAbs (total-is (gasRow g .numbers) (h .each) ∙ h .sum) in
       record { size = rw e at (weigh-total (take i ws) (gasRow g .numbers) (first-light ws i t)) }
 
 -- ---- a column of the table
@@ -179,10 +182,10 @@ module _ (f : Kind → ℤ) (z : f noKind ≡ pos 0) (l : List Share) (i : ℕ) 
   pub column-size : (W : ℕ) → T (all (light W) (map f tableA1)) → natAbs (f (kindAt i)) ≤ W
   column-size W t = subst (λ (x : ℤ). natAbs x ≤ W) weight-at (leb→le _ _ (entry (light W) (pos 0) (map f tableA1) (le→leb 0 W (omega arith)) t i))
 
-  pub column-fits : (W : ℕ) → GasIn (gas l) → T (all (light W) (map f tableA1)) → T (leb (W * 20000) 9223372036854775807) → Fits (weigh (take i (map f tableA1)) (gasRow (gas l) .numbers)) (f (kindAt i)) (getD l i none .0)
+  pub column-fits : (W : ℕ) → GasIn (gas l) → T (all (light W) (map f tableA1)) → T (ltb (W * (2 * most share)) (2 ^ hbits w64)) → Fits (weigh (take i (map f tableA1)) (gasRow (gas l) .numbers)) (f (kindAt i)) (getD l i none .0)
   column-fits W g t u =
-      let s : natAbs (getD l i none .0) ≤ 10000 = subst (λ (x : ℤ). natAbs x ≤ 10000) (share-at l i h) (sized (every-at (In share) (gasRow (gas l) .numbers) i (pos 0) (g .each) h) tt .size) in
+      let s : natAbs (getD l i none .0) ≤ most share = subst (λ (x : ℤ). natAbs x ≤ most share) (share-at l i h) (sized (every-at (In share) (gasRow (gas l) .numbers) i (pos 0) (g .each) h) tt .size) in
       let one = bound-mul (f (kindAt i)) (getD l i none .0) (column-size W t) s in
       let all = bound-add (weigh (take i (map f tableA1)) (gasRow (gas l) .numbers)) (f (kindAt i) *ℤ getD l i none .0) (weigh-size W (map f tableA1) i g t .size) one in
-      let room : W * 20000 ≤ 9223372036854775807 = leb→le _ _ u in
+      let room : W * (2 * most share) < 2 ^ hbits w64 = ltb→lt _ _ u in
       record { one = sfits-abs (omega arith); all = sfits-abs (omega arith) }

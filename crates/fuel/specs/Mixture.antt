@@ -9,6 +9,7 @@ use Rattle.fuel.specs.declared.mixture.Warmth.{Warmth}
 use Rattle.fuel.specs.declared.mixture.Burning.{Burning as Burningˢ}
 use Rattle.formulas.specs.Formulas.{mixedHeat, Burning, ofGas}
 use Rattle.formulas.specs.Figures.{Within}
+use Rattle.formulas.specs.Sizes.{mixedColdMost, mixedRiseMost, airMost, dryMost, vapourMost}
 
 -- a column's sum with one gas more, which does not overflow
 pub record Fits (sum weight share : ℤ) : Type 0 where
@@ -28,8 +29,8 @@ pub record Warmer (m : Warmth) (k : Kind) (share : ℤ) (r : Warmth) : Type 0 wh
 -- of a fuel
 pub record Warmed (g : Gas) (m : Warmth) : Type 0 where
   pub heat : (T : ℤ) → m .cold *ℤ pos 1000 +ℤ m .rise *ℤ T ≡ mixedHeat g T
-  pub cold : Within 41220000 (m .cold)
-  pub rise : Within 11280000 (m .rise)
+  pub cold : Within mixedColdMost (m .cold)
+  pub rise : Within mixedRiseMost (m .rise)
 
 -- ---- burning
 pub record BurningFits (m : Burningˢ) (k : Kind) (share : ℤ) : Type 0 where
@@ -48,9 +49,9 @@ burning m = record { air = m .air; dry = m .dry; vapour = m .vapour }
 
 -- what no fuel exceeds
 pub record BurningIn (b : Burning) : Type 0 where
-  pub air : Within 30940000 (b .air)
-  pub dry : Within 4000000000 (b .dry)
-  pub vapour : Within 2250000000000000000 (b .vapour)
+  pub air : Within airMost (b .air)
+  pub dry : Within dryMost (b .dry)
+  pub vapour : Within vapourMost (b .vapour)
 
 -- of a gas
 pub record Burns (g : Gas) (m : Burningˢ) : Type 0 where

@@ -5,6 +5,7 @@ use mir.Val.{SFits}
 use Rattle.lines.specs.Quantities.{ambient, heating, fuelTemperature, gasTotal}
 use Rattle.lines.specs.Limits.{In}
 use Rattle.formulas.specs.Figures.{Within}
+use Rattle.formulas.specs.Sizes.{mixedColdMost, mixedRiseMost}
 
 pub record MixedFits (cold rise T : ℤ) : Type 0 where
   pub start : SFits w64 (cold *ℤ pos 1000)
@@ -17,7 +18,7 @@ pub record FuelIn (n value : ℤ) : Type 0 where
 
 pub record WarmFuelIn (n cold rise T t : ℤ) : Type 0 where
   pub gas : In gasTotal n
-  pub start : Within 41220000 cold
-  pub on : Within 11280000 rise
+  pub start : Within mixedColdMost cold
+  pub on : Within mixedRiseMost rise
   pub at : In fuelTemperature T
   pub from : In ambient t

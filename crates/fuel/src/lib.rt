@@ -11,6 +11,7 @@ ghost use Rattle.lines.specs.Limits.{StageIn};
 ghost use Rattle.formulas.specs.Rounding.{paper};
 ghost use Rattle.formulas.specs.Formulas.{joule, totalGas, q1, q2};
 ghost use Rattle.formulas.specs.Figures.{Figure};
+ghost use Rattle.formulas.specs.Sizes.{q1Most, q2Most};
 ghost use Rattle.formulas.specs.Steps.{ProductFits, stagesOf};
 ghost use Rattle.fuel.specs.Mixture.{Warmed};
 ghost use Rattle.fuel.specs.Steps.{MixedFits, FuelIn, WarmFuelIn};
@@ -54,7 +55,7 @@ pub fn total_gas(stages: Stages) -> GasTotal
 // The heat of burning.
 pub fn q1(gas: GasTotal, heating: HeatingValue) -> Joules
     requires { ⌜ FuelIn (gas .0) (heating .0) ⌝ }
-    ensures { λ r. ⌜ ((f : Firing) → totalGas (f .stages) ≡ gas .0 → f .fuel .heating ≡ heating .0 → Figure joule 2600000000000 (r .0) (q1 f paper)) ⌝ }
+    ensures { λ r. ⌜ ((f : Firing) → totalGas (f .stages) ≡ gas .0 → f .fuel .heating ≡ heating .0 → Figure joule q1Most (r .0) (q1 f paper)) ⌝ }
 {
     Joules(gas.0 as i64 * heating.0 as i64 * 100)
 }
@@ -78,7 +79,8 @@ fn brought(gas: GasTotal, c: MixedHeat, rise: Rise) -> Nanojoules
 // The fuel's heat above the base temperature.
 pub fn q2(gas: GasTotal, warmth: Warmth, at: Degrees, t: Degrees) -> Joules
     requires { ⌜ WarmFuelIn (gas .0) (warmth .cold) (warmth .rise) (at .0) (t .0) ⌝ }
-    ensures { λ r. ⌜ ((f : Firing) → totalGas (f .stages) ≡ gas .0 → Warmed (f .gas) warmth → f .fuel .temperature ≡ at .0 → f .ambient ≡ t .0 → Figure joule 7678080000 (r .0) (q2 f paper)) ⌝ }
+    ensures { λ r. ⌜ ((f : Firing) → totalGas (f .stages) ≡ gas .0 → Warmed (f .gas) warmth → f .fuel .temperature ≡ at .0 → f .ambient ≡ t .0 →
+        Figure joule q2Most (r .0) (q2 f paper)) ⌝ }
 {
     brought(gas, mixed_heat(warmth, at), at.above(t)).joules()
 }

@@ -15,7 +15,8 @@ use Rattle.sheet.specs.Shown.{firing}
 use Rattle.lines.specs.Limits.{Limits}
 use Rattle.formulas.specs.Figures.{Is, Within, Figure}
 use Rattle.formulas.specs.Items.{Quantity}
-use Rattle.heat.specs.Balance.{Kept, Heat, greatest}
+use Rattle.formulas.specs.Sizes.{heatMost}
+use Rattle.heat.specs.Balance.{Kept, Heat}
 use Rattle.formulas.proofs.Units.{only}
 
 -- its firing is written out field by field, so that the limits are those of the struct's own fields
@@ -27,11 +28,11 @@ pub field : {A : Type 0} {x : Sheet} {f : Firing} → Kept x f → (g : Firing �
 field k g = ap g (k .shows .lines)
 
 -- in the bits of an i64, as one of all heats: a sum, and a heat
-pub summed : {k : ℕ} {m n x y : ℤ} → m ≡ n → x ≡ y → Is k n y → Within greatest n → Figure k greatest (toZ w64 (ofZ w64 m)) x
+pub summed : {k : ℕ} {m n x y : ℤ} → m ≡ n → x ≡ y → Is k n y → Within heatMost n → Figure k heatMost (toZ w64 (ofZ w64 m)) x
 summed e d p w = rw (e, d, toZ-ofZ (sfits-abs (lt-of-le-of-lt (w .size) (lit< tt)))) (record { is = p; size = w })
 
-pub laid : {k B : ℕ} {n x : ℤ} → Figure k B n x → T (leb B greatest) → Figure k greatest (toZ w64 (ofZ w64 n)) x
-laid {B = B} p t = summed refl refl (p .is) (record { size = le-trans (p .size .size) (leb→le B greatest t) })
+pub laid : {k B : ℕ} {n x : ℤ} → Figure k B n x → T (leb B heatMost) → Figure k heatMost (toZ w64 (ofZ w64 n)) x
+laid {B = B} p t = summed refl refl (p .is) (record { size = le-trans (p .size .size) (leb→le B heatMost t) })
 
 -- no second number of joules is a heat of the firing
 pub one-answer : (q : Quantity) (f : Firing) {a b : ℕ} {m n : ℤ} → Heat q f a m → Heat q f b n → m ≡ n

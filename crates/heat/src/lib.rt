@@ -3,6 +3,7 @@ ghost use mathlib.Core.Path.{_≡_};
 ghost use lib.IntN.{_+ℤ_};
 ghost use Rattle.sheet.specs.Firing.{Firing};
 ghost use Rattle.formulas.specs.Formulas.{q1, q2};
+ghost use Rattle.formulas.specs.Sizes.{q1Most, q2Most};
 ghost use Rattle.heat.specs.Steps.{ThreeFits, FiveFits};
 ghost use Rattle.heat.specs.Balance.{Kept, Heat, Heated, Balanced};
 use flue::flue_heats;
@@ -77,7 +78,7 @@ fn five(a: Joules, b: Joules, c: Joules, d: Joules, e: Joules) -> Joules
 // What the fuel brings.
 fn fuel_heat(sheet: Sheet) -> FuelHeat
     requires { ⌜ ((f : Firing) × Kept sheet f) ⌝ }
-    ensures { λ r. ⌜ ((f : Firing) → Kept sheet f → Heat q1 f 2600000000000 (r .q1 .0) × Heat q2 f 7678080000 (r .q2 .0)) ⌝ }
+    ensures { λ r. ⌜ ((f : Firing) → Kept sheet f → Heat q1 f q1Most (r .q1 .0) × Heat q2 f q2Most (r .q2 .0)) ⌝ }
 {
     let head = sheet.head;
     let fuel = head.fuel;

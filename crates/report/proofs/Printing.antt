@@ -25,7 +25,8 @@ use Rattle.formulas.specs.Formulas.{joule, totalGas, q1, useful, withset}
 use Rattle.formulas.specs.Items.{Quantity, Item, item, shuttle, heats, heatCount}
 use Rattle.formulas.specs.Report.{Line, heat, share, itemLine, shares, lines, lineCount, printed, figures, joules}
 use Rattle.formulas.specs.Figures.{Is}
-use Rattle.heat.specs.Balance.{Heat, Laid, Balanced, greatest}
+use Rattle.formulas.specs.Sizes.{heatMost}
+use Rattle.heat.specs.Balance.{Heat, Laid, Balanced}
 use Rattle.formulas.proofs.Units.{units, only}
 use Rattle.formulas.proofs.Sums.{sum-of}
 use Rattle.formulas.proofs.Sizes.{within, fit}
@@ -70,7 +71,7 @@ no-item : Item
 no-item = item "" q1
 
 laid-at : (f : Firing) (l : List Item) (ns : List ℤ) (i : ℕ) → Laid f l ns → i < length l →
-    Heat (getD l i no-item .heat) f greatest (getD ns i (pos 0))
+    Heat (getD l i no-item .heat) f heatMost (getD ns i (pos 0))
 laid-at f [] ns i p h = absurd (not-suc-le-zero h)
 laid-at f (x ∷ l) [] i p h = absurd p
 laid-at f (x ∷ l) (n ∷ ns) zero p h = p .0
@@ -102,11 +103,11 @@ module _ {f : Firing} {number product : ℤ} {ns : List ℤ} (p : Found f number
   abbrev read-at : ℕ → ℤ
   read-at i = toZ w64 (ofZ w64 (getD ns i (pos 0)))
 
-  read : (i : ℕ) → i < heatCount shuttle → Heat (getD (heats shuttle) i no-item .heat) f greatest (read-at i)
+  read : (i : ℕ) → i < heatCount shuttle → Heat (getD (heats shuttle) i no-item .heat) f heatMost (read-at i)
   unfolding heats
   read i h = let a = laid-at f (heats shuttle) ns i (p .balanced) h in rw (toZ-ofZ (sfits-abs (lt-of-le-of-lt (a .size .size) (lit< tt)))) a
 
-  fuel : Heat q1 f greatest (read-at fuel-at)
+  fuel : Heat q1 f heatMost (read-at fuel-at)
   unfolding heats
   fuel = read fuel-at (lit< tt)
 
@@ -130,7 +131,7 @@ module _ {f : Firing} {number product : ℤ} {ns : List ℤ} (p : Found f number
       ∙ over 10 (natAbs (f .product)) (read i h .is)
       ∙ line-at f (heats shuttle) shares i h)
 
-  of-fuel-is : (q : Quantity) {n : ℤ} → Heat q f greatest n → nearest (n *ℤ pos 10000) (natAbs (read-at fuel-at)) ≡ printed f (share q)
+  of-fuel-is : (q : Quantity) {n : ℤ} → Heat q f heatMost n → nearest (n *ℤ pos 10000) (natAbs (read-at fuel-at)) ≡ printed f (share q)
   unfolding printed
   of-fuel-is q h =
       let m = read-at fuel-at in

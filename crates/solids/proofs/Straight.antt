@@ -10,26 +10,27 @@ use Rattle.formulas.specs.declared.Line.{Line}
 use Rattle.formulas.specs.Tables.{tableA2, line, lineAt}
 use Rattle.formulas.specs.Formulas.{byTable}
 use Rattle.formulas.specs.Figures.{Within}
+use Rattle.formulas.specs.Sizes.{startMost, slopeMost, temperatureMost, specificHeatMost}
 use Rattle.formulas.proofs.Sizes.{within, most, fit, entry}
 use Rattle.solids.specs.Steps.{StraightFits}
 
 modest : Line → Bool
-modest x = leb (natAbs (x .a)) 96 && leb (natAbs (x .b)) 880
+modest x = leb (natAbs (x .a)) startMost && leb (natAbs (x .b)) slopeMost
 
 module _ (i : ℕ) where
   modest-at : T (modest (lineAt i))
   unfolding modest
   modest-at = entry modest (line 0 0) tableA2 tt tt i
 
-  a-size : Within 96 (lineAt i .a)
+  a-size : Within startMost (lineAt i .a)
   unfolding modest
-  a-size = record { size = leb→le _ _ (both-left (leb (natAbs (lineAt i .a)) 96) (leb (natAbs (lineAt i .b)) 880) modest-at) }
+  a-size = record { size = leb→le _ _ (both-left (leb (natAbs (lineAt i .a)) startMost) (leb (natAbs (lineAt i .b)) slopeMost) modest-at) }
 
-  b-size : Within 880 (lineAt i .b)
+  b-size : Within slopeMost (lineAt i .b)
   unfolding modest
-  b-size = record { size = leb→le _ _ (both-right (leb (natAbs (lineAt i .a)) 96) (leb (natAbs (lineAt i .b)) 880) modest-at) }
+  b-size = record { size = leb→le _ _ (both-right (leb (natAbs (lineAt i .a)) startMost) (leb (natAbs (lineAt i .b)) slopeMost) modest-at) }
 
-  module _ {T : ℤ} (h : Within 18000 T) where
+  module _ {T : ℤ} (h : Within temperatureMost T) where
     abbrev ks : List Known
     ks = within a-size ∷ within b-size ∷ within h ∷ []
 
@@ -40,5 +41,5 @@ module _ (i : ℕ) where
       all = fit ks (raw 0 ⟨*⟩ num (pos 100000) ⟨+⟩ raw 1 ⟨*⟩ raw 2) tt;
     }
 
-    pub straight-size : Within 100000000 (byTable i T)
+    pub straight-size : Within specificHeatMost (byTable i T)
     straight-size = most ks (raw 0 ⟨*⟩ num (pos 100000) ⟨+⟩ raw 1 ⟨*⟩ raw 2) tt

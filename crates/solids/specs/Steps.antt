@@ -15,6 +15,7 @@ use Rattle.lines.specs.Rules.{Every}
 use Rattle.lines.specs.Limits.{In, StuffIn, WareIn, WaterIn}
 use Rattle.formulas.specs.Tables.{lineOf, lineAt}
 use Rattle.formulas.specs.Figures.{Within}
+use Rattle.formulas.specs.Sizes.{massMost, temperatureMost}
 
 -- ---- specific heat
 -- a line of table A.2 with the coefficients of the one that holds
@@ -29,14 +30,14 @@ pub record StraightFits (a b T : ℤ) : Type 0 where
 
 pub record Heated (x : Stuff) (T : ℤ) : Type 0 where
   pub stuff : StuffIn x
-  pub at : Within 18000 T
+  pub at : Within temperatureMost T
 
 -- ---- m c (T − T₀)
 pub record Warmed (m : ℤ) (x : Stuff) (T T₀ : ℤ) : Type 0 where
-  pub mass : Within 1000000 m
+  pub mass : Within massMost m
   pub stuff : StuffIn x
-  pub at : Within 18000 T
-  pub from : Within 18000 T₀
+  pub at : Within temperatureMost T
+  pub from : Within temperatureMost T₀
 
 -- ---- the lines of a block
 abbrev pub settersOf : Settersˢ → List Setter
@@ -48,12 +49,12 @@ partsOf x = map part (take (x .count .0) (x .lines))
 -- setters or parts within their limits, and the other temperature
 pub record Loads {A : Type 0} (In₁ : A → Type 0) (l : List A) (T : ℤ) : Type 0 where
   pub each : Every In₁ l
-  pub other : Within 18000 T
+  pub other : Within temperatureMost T
 
 -- ---- ware, water and clay
 pub record WareWarmed (x : Ware) (T : ℤ) : Type 0 where
   pub ware : WareIn x
-  pub ambient : Within 18000 T
+  pub ambient : Within temperatureMost T
 
 pub record WareFired (m : ℤ) (x : Ware) : Type 0 where
   pub product : In product m

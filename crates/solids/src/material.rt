@@ -8,6 +8,7 @@ ghost use Rattle.sheet.specs.Shown.{stuff as stuffOf};
 ghost use Rattle.formulas.specs.Rounding.{paper};
 ghost use Rattle.formulas.specs.Formulas.{joule, specificHeat, sensible};
 ghost use Rattle.formulas.specs.Figures.{Exact, Figure};
+ghost use Rattle.formulas.specs.Sizes.{specificHeatMost, sensibleMost};
 ghost use Rattle.formulas.specs.Steps.{ProductFits};
 ghost use Rattle.solids.specs.Steps.{RowIs, StraightFits, Heated, Warmed};
 use formulas::Line;
@@ -89,7 +90,7 @@ fn stored(mass: Kilos, c: Capacity, rise: Rise) -> Microjoules
 // The specific heat of a thing at a temperature.
 fn specific_heat(stuff: Stuff, at: Degrees) -> Capacity
     requires { ⌜ Heated (stuffOf stuff) (at .0) ⌝ }
-    ensures { λ r. ⌜ Exact 100000000 (r .0) (specificHeat (stuffOf stuff) (at .0)) ⌝ }
+    ensures { λ r. ⌜ Exact specificHeatMost (r .0) (specificHeat (stuffOf stuff) (at .0)) ⌝ }
 {
     let material = stuff.material;
     if material.0 == 0 {
@@ -102,7 +103,7 @@ fn specific_heat(stuff: Stuff, at: Degrees) -> Capacity
 // m c (at − from), with c at the first of the two temperatures, in whole joules.
 pub fn sensible(mass: Kilos, stuff: Stuff, at: Degrees, from: Degrees) -> Joules
     requires { ⌜ Warmed (mass .0) (stuffOf stuff) (at .0) (from .0) ⌝ }
-    ensures { λ r. ⌜ Figure joule 3600000000000 (r .0) (sensible paper (mass .0) (stuffOf stuff) (at .0) (from .0)) ⌝ }
+    ensures { λ r. ⌜ Figure joule sensibleMost (r .0) (sensible paper (mass .0) (stuffOf stuff) (at .0) (from .0)) ⌝ }
 {
     let c = specific_heat(stuff, at);
     stored(mass, c, at.above(from)).joules()

@@ -6,6 +6,7 @@ ghost use Rattle.lines.specs.Limits.{SetterIn, PartIn};
 ghost use Rattle.formulas.specs.Rounding.{paper};
 ghost use Rattle.formulas.specs.Formulas.{joule, q3, q5, q8, x1, x5, x10};
 ghost use Rattle.formulas.specs.Figures.{Within, Figure};
+ghost use Rattle.formulas.specs.Sizes.{temperatureMost, sensibleMost, settersHeatMost, partsHeatMost};
 ghost use Rattle.solids.specs.Steps.{Loads, WareWarmed, WareFired, settersOf, partsOf};
 use crate::material::sensible;
 use formulas::block::held;
@@ -32,9 +33,9 @@ pub struct PartHeats {
 // Both heats of the setters, in one loop: each loop over the array costs a copy of it.
 pub fn setter_heats(setters: Setters, t: Degrees, highest: Degrees) -> SetterHeats
     requires { ⌜ Loads SetterIn (settersOf setters) (t .0) ⌝ }
-    requires { ⌜ Within 18000 (highest .0) ⌝ }
-    ensures { λ r. ⌜ ((f : Firing) → f .setters ≡ settersOf setters → f .ambient ≡ t .0 → Figure joule 115200000000000 (r .q3 .0) (q3 f paper)) ⌝ }
-    ensures { λ r. ⌜ ((f : Firing) → f .setters ≡ settersOf setters → f .ware .highest ≡ highest .0 → Figure joule 115200000000000 (r .x5 .0) (x5 f paper)) ⌝ }
+    requires { ⌜ Within temperatureMost (highest .0) ⌝ }
+    ensures { λ r. ⌜ ((f : Firing) → f .setters ≡ settersOf setters → f .ambient ≡ t .0 → Figure joule settersHeatMost (r .q3 .0) (q3 f paper)) ⌝ }
+    ensures { λ r. ⌜ ((f : Firing) → f .setters ≡ settersOf setters → f .ware .highest ≡ highest .0 → Figure joule settersHeatMost (r .x5 .0) (x5 f paper)) ⌝ }
 {
     let lines = setters.lines;
     let count = held(setters.count.0, 32);
@@ -51,8 +52,8 @@ pub fn setter_heats(setters: Setters, t: Degrees, highest: Degrees) -> SetterHea
 // Both heats of the parts.
 pub fn part_heats(parts: Parts, t: Degrees) -> PartHeats
     requires { ⌜ Loads PartIn (partsOf parts) (t .0) ⌝ }
-    ensures { λ r. ⌜ ((f : Firing) → f .parts ≡ partsOf parts → f .ambient ≡ t .0 → Figure joule 115200000000000 (r .q8 .0) (q8 f paper)) ⌝ }
-    ensures { λ r. ⌜ ((f : Firing) → f .parts ≡ partsOf parts → f .ambient ≡ t .0 → Figure joule 115200000000000 (r .x10 .0) (x10 f paper)) ⌝ }
+    ensures { λ r. ⌜ ((f : Firing) → f .parts ≡ partsOf parts → f .ambient ≡ t .0 → Figure joule partsHeatMost (r .q8 .0) (q8 f paper)) ⌝ }
+    ensures { λ r. ⌜ ((f : Firing) → f .parts ≡ partsOf parts → f .ambient ≡ t .0 → Figure joule partsHeatMost (r .x10 .0) (x10 f paper)) ⌝ }
 {
     let lines = parts.lines;
     let count = held(parts.count.0, 32);
@@ -69,7 +70,7 @@ pub fn part_heats(parts: Parts, t: Degrees) -> PartHeats
 // The green ware's heat above the base temperature.
 pub fn q5(ware: Ware, t: Degrees) -> Joules
     requires { ⌜ WareWarmed (wareOf ware) (t .0) ⌝ }
-    ensures { λ r. ⌜ ((f : Firing) → f .ware ≡ wareOf ware → f .ambient ≡ t .0 → Figure joule 3600000000000 (r .0) (q5 f paper)) ⌝ }
+    ensures { λ r. ⌜ ((f : Firing) → f .ware ≡ wareOf ware → f .ambient ≡ t .0 → Figure joule sensibleMost (r .0) (q5 f paper)) ⌝ }
 {
     sensible(ware.green, ware.stuff, ware.entry, t)
 }
@@ -77,7 +78,7 @@ pub fn q5(ware: Ware, t: Degrees) -> Joules
 // The fired ware's heat, from its entry to the highest temperature.
 pub fn x1(product: Product, ware: Ware) -> Joules
     requires { ⌜ WareFired (product .0) (wareOf ware) ⌝ }
-    ensures { λ r. ⌜ ((f : Firing) → f .product ≡ product .0 → f .ware ≡ wareOf ware → Figure joule 3600000000000 (r .0) (x1 f paper)) ⌝ }
+    ensures { λ r. ⌜ ((f : Firing) → f .product ≡ product .0 → f .ware ≡ wareOf ware → Figure joule sensibleMost (r .0) (x1 f paper)) ⌝ }
 {
     sensible(Kilos(product.0), ware.stuff, ware.highest, ware.entry)
 }

@@ -8,6 +8,7 @@ ghost use Rattle.lines.specs.Limits.{In};
 ghost use Rattle.formulas.specs.Rounding.{paper};
 ghost use Rattle.formulas.specs.Formulas.{joule, x2, x3, waterHeat};
 ghost use Rattle.formulas.specs.Figures.{Figure};
+ghost use Rattle.formulas.specs.Sizes.{x2Most, x3Most, waterHeatMost};
 ghost use Rattle.solids.specs.Steps.{SteamFits, BoiledFits, TwoWatersFits, WetIn, SoakedIn};
 use formulas::rounding::Decijoules;
 use quantity::heat::Joules;
@@ -30,7 +31,7 @@ fn steam(water: Water, rise: Rise) -> Decijoules
 // The heat that leaves with the water.
 pub fn x2(water: Water, t: Degrees) -> Joules
     requires { ⌜ WetIn (waterOf water) (t .0) ⌝ }
-    ensures { λ r. ⌜ ((f : Firing) → f .water ≡ waterOf water → f .ambient ≡ t .0 → Figure joule 968920000000 (r .0) (x2 f paper)) ⌝ }
+    ensures { λ r. ⌜ ((f : Firing) → f .water ≡ waterOf water → f .ambient ≡ t .0 → Figure joule x2Most (r .0) (x2 f paper)) ⌝ }
 {
     steam(water, water.flue.degrees().above(t)).joules()
 }
@@ -38,7 +39,7 @@ pub fn x2(water: Water, t: Degrees) -> Joules
 // The heat that breaks the clay down.
 pub fn x3(clay: Kilos) -> Joules
     requires { ⌜ In mass (clay .0) ⌝ }
-    ensures { λ r. ⌜ ((f : Firing) → f .clay ≡ clay .0 → Figure joule 108800000000 (r .0) (x3 f paper)) ⌝ }
+    ensures { λ r. ⌜ ((f : Firing) → f .clay ≡ clay .0 → Figure joule x3Most (r .0) (x3 f paper)) ⌝ }
 {
     Joules(clay.0 as i64 * 108_800)
 }
@@ -62,7 +63,7 @@ fn two_waters(water: Water, adsorbed: Boiling, crystal: Boiling) -> Decijoules
 // The part of the useful heat that dries the ware.
 pub fn water_heat(water: Water, entry: Degrees) -> Joules
     requires { ⌜ SoakedIn (waterOf water) (entry .0) ⌝ }
-    ensures { λ r. ⌜ ((f : Firing) → f .water ≡ waterOf water → f .ware .entry ≡ entry .0 → Figure joule 877525000000 (r .0) (waterHeat f paper)) ⌝ }
+    ensures { λ r. ⌜ ((f : Firing) → f .water ≡ waterOf water → f .ware .entry ≡ entry .0 → Figure joule waterHeatMost (r .0) (waterHeat f paper)) ⌝ }
 {
     two_waters(water, boiled(entry, 25), boiled(entry, 450)).joules()
 }

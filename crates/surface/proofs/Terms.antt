@@ -1,27 +1,32 @@
 -- How large the first term of formula 25 can be, by its factor and the rise. Assumes nothing.
-use Prim.Native.Nat.{ℕ, _≤_}
+use Prim.Native.Nat.{ℕ, _+_, _*_, _≤_, _<_}
 use mathlib.Core.List.{[], _∷_}
-use native.Mathlib.Nat.{le-refl, mul-le-mul}
+use native.Mathlib.Nat.{le-refl, lt-of-le-of-lt, mul-le-mul}
 use native.Mathlib.Decide.{decLe}
 use native.Mathlib.Omega.{arith}
-use lib.Dec.{leb, leb→le}
+use lib.Dec.{leb, leb→le, lit<}
 use Rattle.arith.specs.Root.{root}
 use Rattle.arith.proofs.RootLaws.{root-is}
 use Rattle.formulas.specs.Rounding.{square}
 use Rattle.formulas.specs.Formulas.{placed}
+use Rattle.formulas.specs.Sizes.{placedMost, warmerMost, convectionMost}
 use Rattle.formulas.proofs.Sizes.{entry}
 
-pub placed-most : (p : ℕ) → placed p ≤ 326
-placed-most p = leb→le _ _ (entry (λ a. leb a 326) 0 (0 ∷ 326 ∷ 256 ∷ 210 ∷ []) tt tt p)
+pub placed-most : (p : ℕ) → placed p ≤ placedMost
+placed-most p = leb→le _ _ (entry (λ a. leb a placedMost) 0 (0 ∷ 326 ∷ 256 ∷ 210 ∷ []) tt tt p)
 
--- A Δ√Δ in 1e-5 W/m²
-pub term-most : {a Δ : ℕ} → a ≤ 326 → Δ ≤ 3200 → root (square a Δ) ≤ 1866132891
-term-most {a} {Δ} h k = go (decLe (root (square a Δ)) 1866132891)
+-- a root is not above a number whose next one's square is above
+not-above : (n r : ℕ) → n < (r + 1) * (r + 1) → root n ≤ r
+not-above n r h = go (decLe (root n) r)
   where
-    go : Dec (root (square a Δ) ≤ 1866132891) → root (square a Δ) ≤ 1866132891
+    go : Dec (root n ≤ r) → root n ≤ r
     go (yes p) = p
     go (no f) =
-        let more : 1866132892 ≤ root (square a Δ) = omega arith in
-        let low = mul-le-mul more more in
-        let high : square a Δ ≤ 3482451968000000000 = mul-le-mul (mul-le-mul (le-refl 1000) (mul-le-mul h h)) (mul-le-mul (mul-le-mul k k) k) in
-        let e : ⊥ = omega (arith, low, high, root-is (square a Δ) .below) in absurd e
+        let more : r + 1 ≤ root n = omega arith in
+        let e : ⊥ = omega (arith, mul-le-mul more more, root-is n .below) in absurd e
+
+-- A Δ√Δ in 1e-5 W/m²
+pub term-most : {a Δ : ℕ} → a ≤ placedMost → Δ ≤ warmerMost → root (square a Δ) ≤ convectionMost
+term-most {a} {Δ} h k =
+    let most = mul-le-mul (mul-le-mul (le-refl 1000) (mul-le-mul h h)) (mul-le-mul (mul-le-mul k k) k) in
+    not-above (square a Δ) convectionMost (lt-of-le-of-lt most (lit< tt))

@@ -17,13 +17,14 @@ use Rattle.lines.specs.Quantities.{surface, nearAir, minutes}
 use Rattle.lines.specs.Limits.{In, StageIn, SectionIn, Limits}
 use Rattle.formulas.specs.Rounding.{paper}
 use Rattle.formulas.specs.Formulas.{wallHeat}
+use Rattle.formulas.specs.Sizes.{warmerMost, cellsMost}
 use Rattle.formulas.specs.Steps.{stagesOf}
 
 -- ---- steps
 pub record RiseIn (p : ℕ) (Δ : ℤ) : Type 0 where
   pub place : p ≤ 3
   pub low : pos 0 ≤ℤ Δ
-  pub high : Δ ≤ℤ pos 3200
+  pub high : Δ ≤ℤ pos warmerMost
 
 pub record FourthFits (T : ℤ) : Type 0 where
   pub one : SFits w64 (pos 2730 +ℤ T)
@@ -74,5 +75,5 @@ pub record CellIn (x : Reading) (s : Section) (t : Stage) : Type 0 where
 pub record Seen (readings : List Reading) (x : Sections) (y : Stages) (f : Firing) : Type 0 where
   pub sections : f .sections ≡ map section (take (x .count .0) (x .lines))
   pub stages : f .stages ≡ stagesOf y
-  pub laid : readings ≡ laid (f .sections) (replicate 144 unread) (f .walls)
+  pub laid : readings ≡ laid (f .sections) (replicate cellsMost unread) (f .walls)
   pub limits : Limits f

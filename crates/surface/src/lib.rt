@@ -11,6 +11,7 @@ ghost use Rattle.sheet.specs.Shown.{stage as stageOf, section as sectionOf};
 ghost use Rattle.formulas.specs.Rounding.{paper, square};
 ghost use Rattle.formulas.specs.Formulas.{joule, placed, fourth, radiation, flux, wallHeat, x9};
 ghost use Rattle.formulas.specs.Figures.{Exact, Figure};
+ghost use Rattle.formulas.specs.Sizes.{placedMost, warmerMost, convectionMost, radiationMost, fluxMost, wallHeatMost, x9Most};
 ghost use Rattle.surface.specs.Cells.{FourthFits, DifferenceFits, LostFits, RiseIn, HotIn, WallIn, LostIn, cellHeat, CellIn, Seen};
 use formulas::block::held;
 use formulas::rounding::Microjoules;
@@ -41,7 +42,7 @@ const FACTOR: [u64; 4] = [0, 326, 256, 210];
 impl RadiationExact {
     // To the nearest 1e-5 W/m².
     fn rounded(self) -> Flux
-        ensures { λ r. ⌜ r .0 ≡ nearest (self .0) 1000000000 ⌝ }
+        ensures { λ r. ⌜ r .0 ≡ nearest (self .0) (10 ^ 9) ⌝ }
     {
         Flux(arith::nearest(self.0, 1_000_000_000))
     }
@@ -49,7 +50,7 @@ impl RadiationExact {
 
 // A Δ√Δ, cut down.
 fn cut_down(a: u64, rise: u64) -> u64
-    requires { ⌜ (a ≤ 326) × (rise ≤ 3200) ⌝ }
+    requires { ⌜ (a ≤ placedMost) × (rise ≤ warmerMost) ⌝ }
     ensures { λ r. ⌜ r ≡ root (square a rise) ⌝ }
 {
     arith::floor_root(1000 * (a * a) * (rise * rise * rise))
@@ -58,7 +59,7 @@ fn cut_down(a: u64, rise: u64) -> u64
 // The first term of formula 25.
 fn convection(place: Place, rise: Rise) -> Flux
     requires { ⌜ RiseIn (place .0) (rise .0) ⌝ }
-    ensures { λ r. ⌜ Exact 1866132891 (r .0) (pos (root (square (placed (place .0)) (natAbs (rise .0))))) ⌝ }
+    ensures { λ r. ⌜ Exact convectionMost (r .0) (pos (root (square (placed (place .0)) (natAbs (rise .0))))) ⌝ }
 {
     let at = place.0;
     let size = rise.0 as u64;
@@ -85,7 +86,7 @@ fn radiated(surface: Fourth, air: Fourth) -> RadiationExact
 // The second term of formula 25.
 fn radiation(surface: Degrees, air: Degrees) -> Flux
     requires { ⌜ HotIn (surface .0) (air .0) ⌝ }
-    ensures { λ r. ⌜ ((w : Wall) → w .surface ≡ surface .0 → w .air ≡ air .0 → Figure (10 ^ 9) 470810622 (r .0) (radiation paper w)) ⌝ }
+    ensures { λ r. ⌜ ((w : Wall) → w .surface ≡ surface .0 → w .air ≡ air .0 → Figure (10 ^ 9) radiationMost (r .0) (radiation paper w)) ⌝ }
 {
     radiated(fourth_power(surface), fourth_power(air)).rounded()
 }
@@ -101,7 +102,8 @@ fn both(first: Flux, second: Flux) -> Flux
 // Formula 25, as a product.
 fn flux_at(reading: Reading, section: Section) -> Flux
     requires { ⌜ WallIn reading (sectionOf section) ⌝ }
-    ensures { λ r. ⌜ ((w : Wall) → w .surface ≡ reading .surface .0 → w .air ≡ reading .air .0 → Figure (10 ^ 9) 2336943513 (r .0) (flux paper (sectionOf section) w)) ⌝ }
+    ensures { λ r. ⌜ ((w : Wall) → w .surface ≡ reading .surface .0 → w .air ≡ reading .air .0 →
+        Figure (10 ^ 9) fluxMost (r .0) (flux paper (sectionOf section) w)) ⌝ }
 {
     let first = convection(section.place, reading.surface.above(reading.air));
     let second = radiation(reading.surface.degrees(), reading.air.degrees());
@@ -119,7 +121,8 @@ fn lost(flux: Flux, area: Area, minutes: Minutes) -> Microjoules
 // The heat that leaves through a section in a stage.
 fn wall_heat(reading: Reading, section: Section, stage: Stage) -> Joules
     requires { ⌜ LostIn reading (sectionOf section) (stageOf stage) ⌝ }
-    ensures { λ r. ⌜ ((w : Wall) → w .surface ≡ reading .surface .0 → w .air ≡ reading .air .0 → Figure joule 807647678093 (r .0) (wallHeat paper (sectionOf section) (stageOf stage) w)) ⌝ }
+    ensures { λ r. ⌜ ((w : Wall) → w .surface ≡ reading .surface .0 → w .air ≡ reading .air .0 →
+        Figure joule wallHeatMost (r .0) (wallHeat paper (sectionOf section) (stageOf stage) w)) ⌝ }
 {
     lost(flux_at(reading, section), section.area, stage.minutes).joules()
 }
@@ -127,7 +130,7 @@ fn wall_heat(reading: Reading, section: Section, stage: Stage) -> Joules
 // The heat of a cell of the readings, where something was read.
 fn cell_heat(reading: Reading, section: Section, stage: Stage) -> Joules
     requires { ⌜ CellIn reading (sectionOf section) (stageOf stage) ⌝ }
-    ensures { λ r. ⌜ Figure joule 807647678093 (r .0) (cellHeat reading (sectionOf section) (stageOf stage)) ⌝ }
+    ensures { λ r. ⌜ Figure joule wallHeatMost (r .0) (cellHeat reading (sectionOf section) (stageOf stage)) ⌝ }
 {
     if reading.read == 1 {
         return wall_heat(reading, section, stage);
@@ -138,7 +141,7 @@ fn cell_heat(reading: Reading, section: Section, stage: Stage) -> Joules
 // The heat that leaves through the surface: every cell of the sections that there are, stage by stage.
 pub fn x9(readings: [Reading; 144], sections: Sections, stages: Stages) -> Joules
     requires { ⌜ ((f : Firing) × Seen readings sections stages f) ⌝ }
-    ensures { λ r. ⌜ ((f : Firing) → Seen readings sections stages f → Figure joule 116301265645392 (r .0) (x9 f paper)) ⌝ }
+    ensures { λ r. ⌜ ((f : Firing) → Seen readings sections stages f → Figure joule x9Most (r .0) (x9 f paper)) ⌝ }
 {
     let places = sections.lines;
     let times = stages.lines;

@@ -1,15 +1,15 @@
 -- The exact volume is the formula's, and `rounded` rounds it. Assumes nothing.
 use mathlib.Core.Path.{refl}
 use mathlib.Core.List.{List, [], _∷_}
+use Prim.Native.Nat.{_^_}
 use borrow.Author.Needs.{needs}
-use lib.Dec.{lit<}
 use lib.IntN.{pos}
 use Rattle.arith.proofs.Machine.{Known, Mx, raw, num, _⟨+⟩_, _⟨-⟩_, _⟨*⟩_}
 use Rattle.sheet.specs.Firing.{Stage}
 use Rattle.formulas.specs.Formulas.{Burning, dryFlue}
 use Rattle.flue.specs.Steps.{BurnsIn}
-use Rattle.formulas.proofs.Units.{exactly, rounded}
-use Rattle.formulas.proofs.Sizes.{limits, within, most, fit}
+use Rattle.formulas.proofs.Units.{exactly}
+use Rattle.formulas.proofs.Sizes.{limits, within, fit, rounded}
 use Rattle.flue.proofs.dry_flue.Statement.{statement}
 use Rattle.flue.proofs.dry_flue.Tie as tie
 
@@ -36,9 +36,8 @@ rounded-requires c κs = search needs
 returns : tie.Need-returns
 unfolding dryFlue
 returns c =
-    let s = c .before .before .before in
-    let size = most (known (s .pre)) (raw 0 ⟨*⟩ each) {B = 30440520000000000} tt in
-    rounded 100000 1 (lit< tt) (lit< tt) (exactly refl) size (lit< tt) (rw (c .rounded .ensures, c .before .dry-exact .ensures, c .before .before .dry-rate .ensures))
+    rounded (known (c .before .before .before .pre)) (raw 0 ⟨*⟩ each) (10 ^ 5) 1 tt (exactly refl)
+    (rw (c .rounded .ensures, c .before .dry-exact .ensures, c .before .before .dry-rate .ensures))
 
 pub dry-flue-spec : {M : Type 1} → statement M
 dry-flue-spec = tie.close (tie.spec dry-rate-requires dry-exact-requires rounded-requires returns)

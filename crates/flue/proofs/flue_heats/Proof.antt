@@ -4,12 +4,15 @@ use mathlib.Core.List.{List}
 use Prim.Native.Nat.{ℕ, _≤_, _<_, _-_, min}
 use native.Mathlib.Omega.{arith}
 use borrow.Author.Needs.{needs}
+use lib.IntN.{ℤ}
 use lib.ListN.{length, getD}
 use Rattle.sheet.specs.declared.Stage.{Stage as Stageˢ}
+use Rattle.sheet.specs.Firing.{Stage}
 use Rattle.sheet.specs.Shown.{stage}
 use Rattle.lines.specs.Limits.{StageIn}
 use Rattle.formulas.specs.Rounding.{paper}
 use Rattle.formulas.specs.Formulas.{joule, sum, flueHeat, monoxideHeat, x7, x8}
+use Rattle.formulas.specs.Sizes.{stagesMost, flueHeatMost, monoxideHeatMost}
 use Rattle.fuel.specs.Mixture.{burning as burningOf}
 use Rattle.formulas.proofs.Sums.{unmapped, blankStage, first, each, Running, none, more-fits, summed, blocked}
 use Rattle.flue.proofs.flue_heats.Statement.{statement}
@@ -18,8 +21,8 @@ use Rattle.flue.proofs.flue_heats.Tie as tie
 abbrev Inv-loop : tie.InvT-loop
 Inv-loop burning moisture t lines count x7₀ x8₀ i₀ x7 x8 i =
     (i ≤ count)
-    × Running joule 5800013659199 i (x7 .0) (first (flueHeat paper (burningOf burning) (moisture .0) (t .0)) stage lines i)
-    × Running joule 3881166300000 i (x8 .0) (first (monoxideHeat paper (burningOf burning)) stage lines i)
+    × Running joule flueHeatMost i (x7 .0) (first (flueHeat paper (burningOf burning) (moisture .0) (t .0)) stage lines i)
+    × Running joule monoxideHeatMost i (x8 .0) (first (monoxideHeat paper (burningOf burning)) stage lines i)
 
 abbrev μ-loop : tie.MeasureT-loop
 μ-loop burning moisture t lines count x7₀ x8₀ i₀ x7 x8 i = count - i
@@ -27,10 +30,17 @@ abbrev μ-loop : tie.MeasureT-loop
 abbrev lines : tie.Start Inv-loop μ-loop → List Stageˢ
 lines s = s .args .stages .lines
 
-long : (s : tie.Start Inv-loop μ-loop) → length (lines s) ≡ 12
+-- both heats of a stage, of the firing that the parameters show
+abbrev flueHeatOf : tie.Start Inv-loop μ-loop → Stage → ℤ
+flueHeatOf s = flueHeat paper (burningOf (s .args .burning)) (s .args .moisture .0) (s .args .t .0)
+
+abbrev monoxideHeatOf : tie.Start Inv-loop μ-loop → Stage → ℤ
+monoxideHeatOf s = monoxideHeat paper (burningOf (s .args .burning))
+
+long : (s : tie.Start Inv-loop μ-loop) → length (lines s) ≡ stagesMost
 long s = search (needs, unmapped)
 
-kept : (s : tie.Start Inv-loop μ-loop) (i : ℕ) → i < s .args .stages .count .0 → i < 12 → StageIn (stage (getD (lines s) i blankStage))
+kept : (s : tie.Start Inv-loop μ-loop) (i : ℕ) → i < s .args .stages .count .0 → i < stagesMost → StageIn (stage (getD (lines s) i blankStage))
 kept s i h k = each StageIn stage (lines s) (s .args .stages .count .0) i blankStage (s .pre .stages) h (omega (arith, long s))
 
 held-requires : tie.Need-held-requires Inv-loop μ-loop
@@ -53,24 +63,25 @@ loop-again c =
     let s = l .before .before .before in
     let inside : l .loop .i < length (lines s) = omega (arith, long s) in (
       omega arith,
-      rw (c .before .plus .ensures) (summed (flueHeat paper (burningOf (s .args .burning)) (s .args .moisture .0) (s .args .t .0)) stage (lines s) blankStage inside (l .loop .inv .1) (h .stage-heats .ensures .0)),
-      rw (c .plus2 .ensures) (summed (monoxideHeat paper (burningOf (s .args .burning))) stage (lines s) blankStage inside (l .loop .inv .2) (h .stage-heats .ensures .1)),
+      rw (c .before .plus .ensures) (summed (flueHeatOf s) stage (lines s) blankStage inside (l .loop .inv .1) (h .stage-heats .ensures .0)),
+      rw (c .plus2 .ensures) (summed (monoxideHeatOf s) stage (lines s) blankStage inside (l .loop .inv .2) (h .stage-heats .ensures .1)),
     )
 
 stage-heats-requires : tie.Need-stage-heats-requires Inv-loop μ-loop
 stage-heats-requires c κs =
-    let s = c .before .before .before .before .before in
+    let l = c .before .before in
+    let s = l .before .before .before in
     let p = s .pre in
-    let h = kept s (c .before .before .loop .i) (omega arith) (omega arith) in
+    let h = kept s (l .loop .i) (omega arith) (omega arith) in
     record { moist = record { burns = record { burning = p .burning; stage = h }; moisture = p .moisture }; ambient = p .ambient }
 
 plus-requires : tie.Need-plus-requires Inv-loop μ-loop
 plus-requires c κs =
-    more-fits (c .before .before .before .loop .inv .1) (c .stage-heats .ensures .0) 12 (omega arith) tt
+    more-fits (c .before .before .before .loop .inv .1) (c .stage-heats .ensures .0) stagesMost (omega arith) tt
 
 plus-requires-2 : tie.Need-plus-requires-2 Inv-loop μ-loop
 plus-requires-2 c κs =
-    more-fits (c .before .before .before .before .loop .inv .2) (c .before .stage-heats .ensures .1) 12 (omega arith) tt
+    more-fits (c .before .before .before .before .loop .inv .2) (c .before .stage-heats .ensures .1) stagesMost (omega arith) tt
 
 add-i : tie.Need-add-i Inv-loop μ-loop
 add-i c = search needs
@@ -84,9 +95,9 @@ returns c =
     let s = c .before .before .before .before in
     let l = c .before .loop in
     let n = s .args .stages .count .0 in
-    let e : l .i ≡ min n 12 = omega arith in (
-      λ f e₀ e₁ e₂ e₃. rw (e₀, e₁, e₂, e₃) (blocked (flueHeat paper (burningOf (s .args .burning)) (s .args .moisture .0) (s .args .t .0)) stage (lines s) n 12 (long s) e (l .inv .1)),
-      λ f e₀ e₁. rw (e₀, e₁) (blocked (monoxideHeat paper (burningOf (s .args .burning))) stage (lines s) n 12 (long s) e (l .inv .2)),
+    let e : l .i ≡ min n stagesMost = omega arith in (
+      λ f e₀ e₁ e₂ e₃. rw (e₀, e₁, e₂, e₃) (blocked (flueHeatOf s) stage (lines s) n stagesMost (long s) e (l .inv .1)),
+      λ f e₀ e₁. rw (e₀, e₁) (blocked (monoxideHeatOf s) stage (lines s) n stagesMost (long s) e (l .inv .2)),
     )
 
 pub flue-heats-spec : {M : Type 1} → statement M

@@ -2,12 +2,11 @@
 use mathlib.Core.List.{[], _∷_}
 use Prim.Native.Nat.{_/_, _^_}
 use borrow.Author.Needs.{needs}
-use lib.Dec.{lit<}
 use lib.IntN.{pos}
 use Rattle.arith.proofs.Machine.{raw, num, _⟨*⟩_}
 use Rattle.formulas.specs.Formulas.{joule, monoxideHeat}
-use Rattle.formulas.proofs.Units.{times, finer, rounded}
-use Rattle.formulas.proofs.Sizes.{limits, within, most, fit}
+use Rattle.formulas.proofs.Units.{times, finer}
+use Rattle.formulas.proofs.Sizes.{limits, within, fit, rounded}
 use Rattle.flue.proofs.monoxide_heat.Statement.{statement}
 use Rattle.flue.proofs.monoxide_heat.Tie as tie
 
@@ -16,8 +15,9 @@ unfolding monoxideHeat
 returns c =
     let s = c .before .before in
     let p = s .pre in
-    let size = most (within (p .volume) ∷ limits (p .stage .co) ∷ []) (raw 0 ⟨*⟩ raw 1 ⟨*⟩ num (pos 12750)) {B = 3881166300000000000} tt in
-    λ b v. rounded 1000000 (joule / 10 ^ 6) (lit< tt) (lit< tt) (finer (times (times (v .is) (s .args .stage .co .0)) (pos 12750)) (joule / 10 ^ 11)) size (lit< tt) (rw (c .joules .ensures, c .before .unburnt .ensures))
+    λ b v.
+    rounded (within (p .volume) ∷ limits (p .stage .co) ∷ []) (raw 0 ⟨*⟩ raw 1 ⟨*⟩ num (pos 12750)) (10 ^ 6) (joule / 10 ^ 6) tt
+    (finer (times (times (v .is) (s .args .stage .co .0)) (pos 12750)) (joule / 10 ^ 11)) (rw (c .joules .ensures, c .before .unburnt .ensures))
 
 unburnt-requires : tie.Need-unburnt-requires
 unburnt-requires c κs =

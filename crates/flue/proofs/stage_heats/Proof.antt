@@ -1,12 +1,12 @@
 -- The sum of two heats, and a third from the same volume. Assumes nothing.
 use mathlib.Core.List.{[], _∷_}
 use borrow.Author.Needs.{needs}
-use lib.Dec.{lit≤}
-use Rattle.arith.proofs.Machine.{raw, _⟨+⟩_}
+use lib.IntN.{pos}
+use Rattle.arith.proofs.Machine.{raw, num, _⟨+⟩_, _⟨-⟩_, _⟨*⟩_}
 use Rattle.sheet.specs.Shown.{stage}
 use Rattle.formulas.specs.Formulas.{flueHeat}
 use Rattle.formulas.proofs.Units.{plus}
-use Rattle.formulas.proofs.Sizes.{within, most, fit}
+use Rattle.formulas.proofs.Sizes.{limits, within, most, fit}
 use Rattle.flue.specs.Steps.{FilledIn}
 use Rattle.flue.proofs.stage_heats.Statement.{statement}
 use Rattle.flue.proofs.stage_heats.Tie as tie
@@ -20,7 +20,14 @@ filled c =
     record { volume = c .dry-flue .ensures .size; stage = p .stage }
 
 dry-heat-requires : tie.Need-dry-heat-requires
-dry-heat-requires c κs = record { filled = filled c; capacity = record { size = lit≤ tt }; ambient = c .before .pre .ambient }
+dry-heat-requires c κs =
+    let p = c .before .pre in
+    record {
+      filled = filled c;
+      first = fit (within (c .dry-flue .ensures .size) ∷ []) (raw 0 ⟨*⟩ num (pos 1384)) tt;
+      carried = most (limits (p .moist .burns .stage .flue) ∷ limits (p .ambient) ∷ []) (num (pos 1384) ⟨*⟩ (raw 0 ⟨-⟩ raw 1)) tt;
+      ambient = p .ambient;
+    }
 
 vapour-heat-requires : tie.Need-vapour-heat-requires
 vapour-heat-requires c κs = search needs

@@ -2,11 +2,10 @@
 use mathlib.Core.List.{[], _∷_}
 use Prim.Native.Nat.{_*_, _^_}
 use borrow.Author.Needs.{needs}
-use lib.Dec.{lit<}
 use Rattle.arith.proofs.Machine.{raw, _⟨*⟩_}
 use Rattle.formulas.specs.Formulas.{vapour}
-use Rattle.formulas.proofs.Units.{times, rounded}
-use Rattle.formulas.proofs.Sizes.{limits, within, most, fit}
+use Rattle.formulas.proofs.Units.{times}
+use Rattle.formulas.proofs.Sizes.{limits, within, fit, rounded}
 use Rattle.flue.proofs.vapour.Statement.{statement}
 use Rattle.flue.proofs.vapour.Tie as tie
 
@@ -26,8 +25,8 @@ unfolding vapour
 returns c =
     let s = c .before .before .before in
     let rate = c .before .before .vapour-rate .ensures in
-    let size = most (within (rate .size) ∷ limits (s .pre .burns .stage .gas) ∷ []) (raw 0 ⟨*⟩ raw 1) {B = 2803842428600000} tt in
-    rounded 10000 (56 * 10 ^ 7) (lit< tt) (lit< tt) (times (rate .is) (s .args .stage .gas .0)) size (lit< tt) (rw (c .rounded .ensures, c .before .vapour-exact .ensures))
+    rounded (within (rate .size) ∷ limits (s .pre .burns .stage .gas) ∷ []) (raw 0 ⟨*⟩ raw 1) (10 ^ 4) (56 * 10 ^ 7) tt
+    (times (rate .is) (s .args .stage .gas .0)) (rw (c .rounded .ensures, c .before .vapour-exact .ensures))
 
 pub vapour-spec : {M : Type 1} → statement M
 vapour-spec = tie.close (tie.spec vapour-rate-requires vapour-exact-requires rounded-requires returns)

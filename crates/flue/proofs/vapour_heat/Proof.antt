@@ -2,12 +2,11 @@
 use mathlib.Core.List.{[], _∷_}
 use Prim.Native.Nat.{_*_, _/_, _^_}
 use borrow.Author.Needs.{needs}
-use lib.Dec.{lit<}
 use lib.IntN.{pos, _-ℤ_}
 use Rattle.arith.proofs.Machine.{raw, num, _⟨-⟩_, _⟨*⟩_}
 use Rattle.formulas.specs.Formulas.{joule, vapourHeat}
-use Rattle.formulas.proofs.Units.{times, finer, rounded}
-use Rattle.formulas.proofs.Sizes.{limits, within, most, fit}
+use Rattle.formulas.proofs.Units.{times, finer}
+use Rattle.formulas.proofs.Sizes.{limits, within, fit, rounded}
 use Rattle.flue.proofs.vapour_heat.Statement.{statement}
 use Rattle.flue.proofs.vapour_heat.Tie as tie
 
@@ -35,11 +34,17 @@ joules-requires c κs = search needs
 returns : tie.Need-returns
 unfolding vapourHeat
 returns c =
-    let s = c .before .before .before .before .before in
-    let mass = c .before .before .vapour .ensures in
+    let carried = c .before in
+    let vapour = carried .before in
+    let above = vapour .before in
+    let degrees = above .before in
+    let s = degrees .before in
+    let mass = vapour .vapour .ensures in
     let rise = s .args .stage .flue .0 -ℤ s .args .t .0 in
-    let size = most (within (mass .size) ∷ limits (s .pre .moist .burns .stage .flue) ∷ limits (s .pre .ambient) ∷ []) (raw 0 ⟨*⟩ num (pos 193) ⟨*⟩ (raw 1 ⟨-⟩ raw 2)) {B = 660192738238156000} tt in
-    rounded 1000000 (joule / 10 ^ 6) (lit< tt) (lit< tt) (finer (times (times (mass .is) (pos 193)) rise) (joule / (56 * 10 ^ 17))) size (lit< tt) (rw (c .joules .ensures, c .before .vapour-carried .ensures, c .before .before .before .above .ensures, c .before .before .before .before .degrees .ensures))
+    rounded (within (mass .size) ∷ limits (s .pre .moist .burns .stage .flue) ∷ limits (s .pre .ambient) ∷ [])
+    (raw 0 ⟨*⟩ num (pos 193) ⟨*⟩ (raw 1 ⟨-⟩ raw 2)) (10 ^ 6) (joule / 10 ^ 6) tt
+    (finer (times (times (mass .is) (pos 193)) rise) (joule / (56 * 10 ^ 17)))
+    (rw (c .joules .ensures, carried .vapour-carried .ensures, above .above .ensures, degrees .degrees .ensures))
 
 pub vapour-heat-spec : {M : Type 1} → statement M
 vapour-heat-spec =

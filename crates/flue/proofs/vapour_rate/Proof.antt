@@ -1,15 +1,15 @@
 -- The exact rate is the formula's, and `rounded` rounds it. Assumes nothing.
 use mathlib.Core.Path.{refl}
 use mathlib.Core.List.{List, [], _∷_}
+use Prim.Native.Nat.{_*_, _^_}
 use borrow.Author.Needs.{needs}
-use lib.Dec.{lit<}
 use lib.IntN.{ℤ, pos}
 use Rattle.arith.proofs.Machine.{Known, Mx, raw, num, _⟨+⟩_, _⟨*⟩_}
 use Rattle.sheet.specs.Firing.{Stage}
 use Rattle.formulas.specs.Formulas.{Burning, vapourRate}
 use Rattle.flue.specs.Steps.{MoistIn}
-use Rattle.formulas.proofs.Units.{exactly, rounded}
-use Rattle.formulas.proofs.Sizes.{limits, within, most, fit}
+use Rattle.formulas.proofs.Units.{exactly}
+use Rattle.formulas.proofs.Sizes.{limits, within, fit, rounded}
 use Rattle.flue.proofs.vapour_rate.Statement.{statement}
 use Rattle.flue.proofs.vapour_rate.Tie as tie
 
@@ -38,10 +38,7 @@ rounded-requires c κs = search needs
 
 returns : tie.Need-returns
 unfolding vapourRate
-returns c =
-    let s = c .before .before in
-    let size = most (known (s .pre)) all {B = 7850758800000000000} tt in
-    rounded 560000000 1 (lit< tt) (lit< tt) (exactly refl) size (lit< tt) (rw (c .rounded .ensures, c .before .rate-exact .ensures))
+returns c = rounded (known (c .before .before .pre)) all (56 * 10 ^ 7) 1 tt (exactly refl) (rw (c .rounded .ensures, c .before .rate-exact .ensures))
 
 pub vapour-rate-spec : {M : Type 1} → statement M
 vapour-rate-spec = tie.close (tie.spec rate-exact-requires rounded-requires returns)

@@ -2,13 +2,12 @@
 use mathlib.Core.List.{List, [], _∷_}
 use Prim.Native.Nat.{_/_, _^_}
 use borrow.Author.Needs.{needs}
-use lib.Dec.{lit<}
 use lib.IntN.{ℤ, pos}
 use Rattle.arith.proofs.Machine.{Known, Mx, raw, num, _⟨+⟩_, _⟨-⟩_, _⟨*⟩_}
 use Rattle.formulas.specs.Formulas.{joule, q2}
 use Rattle.fuel.specs.Steps.{WarmFuelIn}
-use Rattle.formulas.proofs.Units.{units, rounded}
-use Rattle.formulas.proofs.Sizes.{limits, within, most, fit}
+use Rattle.formulas.proofs.Units.{units}
+use Rattle.formulas.proofs.Sizes.{limits, within, fit, rounded}
 use Rattle.fuel.proofs.q2.Statement.{statement}
 use Rattle.fuel.proofs.q2.Tie as tie
 
@@ -39,8 +38,10 @@ returns : tie.Need-returns
 unfolding q2
 returns c =
     let s = c .before .before .before .before in
-    let size = most (known (s .pre)) (raw 0 ⟨*⟩ mixed ⟨*⟩ (raw 3 ⟨-⟩ raw 4)) {B = 7678080000000000000} tt in
-    λ f e₁ w e₂ e₃. rw (e₁, e₂, e₃, ← w .heat (s .args .at .0)) (rounded 1000000000 (joule / 10 ^ 9) (lit< tt) (lit< tt) units size (lit< tt) (rw (c .joules .ensures, c .before .brought .ensures, c .before .before .above .ensures, c .before .before .before .mixed-heat .ensures)))
+    λ f e₁ w e₂ e₃.
+    rw (e₁, e₂, e₃, ← w .heat (s .args .at .0))
+    (rounded (known (s .pre)) (raw 0 ⟨*⟩ mixed ⟨*⟩ (raw 3 ⟨-⟩ raw 4)) (10 ^ 9) (joule / 10 ^ 9) tt units
+    (rw (c .joules .ensures, c .before .brought .ensures, c .before .before .above .ensures, c .before .before .before .mixed-heat .ensures)))
 
 pub q2-spec : {M : Type 1} → statement M
 q2-spec = tie.close (tie.spec mixed-heat-requires above-requires brought-requires joules-requires returns)

@@ -9,9 +9,11 @@ use lib.ListN.{length, getD}
 use Rattle.sheet.specs.declared.Stage.{Stage as Stageˢ}
 use Rattle.sheet.specs.Firing.{Stage}
 use Rattle.sheet.specs.Shown.{stage}
+use Rattle.lines.specs.Quantities.{cubicMetres}
 use Rattle.lines.specs.Limits.{StageIn}
 use Rattle.formulas.specs.Formulas.{sum}
 use Rattle.formulas.specs.Figures.{Figure}
+use Rattle.formulas.specs.Sizes.{most, stagesMost}
 use Rattle.formulas.proofs.Units.{exactly, as-it-is}
 use Rattle.formulas.proofs.Sizes.{sized}
 use Rattle.formulas.proofs.Sums.{unmapped, blankStage, first, each, Running, none, more-fits, summed, blocked}
@@ -22,7 +24,7 @@ abbrev gas : Stage → ℤ
 gas x = x .gas
 
 abbrev Inv-loop : tie.InvT-loop
-Inv-loop lines count sum₀ i₀ sum i = (i ≤ count) × Running 1 200000 i (sum .0) (first gas stage lines i)
+Inv-loop lines count sum₀ i₀ sum i = (i ≤ count) × Running 1 (most cubicMetres) i (sum .0) (first gas stage lines i)
 
 abbrev μ-loop : tie.MeasureT-loop
 μ-loop lines count sum₀ i₀ sum i = count - i
@@ -30,13 +32,18 @@ abbrev μ-loop : tie.MeasureT-loop
 abbrev lines : tie.Start Inv-loop μ-loop → List Stageˢ
 lines s = s .args .stages .lines
 
-long : (s : tie.Start Inv-loop μ-loop) → length (lines s) ≡ 12
+long : (s : tie.Start Inv-loop μ-loop) → length (lines s) ≡ stagesMost
 long s = search (needs, unmapped)
 
+-- the start, from the loop
+abbrev S : tie.At-loop Inv-loop μ-loop → tie.Start Inv-loop μ-loop
+S c = c .before .before .before
+
 -- the gas of a stage is within its limits
-one : (s : tie.Start Inv-loop μ-loop) (i : ℕ) → i < s .args .stages .count .0 → i < 12 → Figure 1 200000 (getD (lines s) i blankStage .gas .0) (gas (stage (getD (lines s) i blankStage)))
+one : (s : tie.Start Inv-loop μ-loop) (i : ℕ) → i < s .args .stages .count .0 → i < stagesMost →
+    let x = getD (lines s) i blankStage in Figure 1 (most cubicMetres) (x .gas .0) (gas (stage x))
 one s i h k =
-    let p : StageIn (stage (getD (lines s) i blankStage)) = each StageIn stage (lines s) (s .args .stages .count .0) i blankStage (s .pre) h (omega (arith, long s)) in
+    let p = each StageIn stage (lines s) (s .args .stages .count .0) i blankStage (s .pre) h (omega (arith, long s)) in
     record { is = exactly refl; size = sized (p .gas) tt }
 
 held-requires : tie.Need-held-requires Inv-loop μ-loop
@@ -54,9 +61,8 @@ array-copy-out-stage c = omega arith
 
 more-requires : tie.Need-more-requires Inv-loop μ-loop
 more-requires c κs =
-    let s = c .before .before .before .before .before in
-    let l = c .before .before .loop in
-    more-fits (l .inv .1) (one s (l .i) (omega arith) (omega arith)) 12 (omega arith) tt
+    let l = c .before .before in
+    more-fits (l .loop .inv .1) (one (S l) (l .loop .i) (omega arith) (omega arith)) stagesMost (omega arith) tt
 
 add-i : tie.Need-add-i Inv-loop μ-loop
 add-i c = search needs
@@ -66,17 +72,18 @@ loop-less c = search needs
 
 loop-again : tie.Need-loop-again Inv-loop μ-loop
 loop-again c =
-    let s = c .before .before .before .before .before .before in
-    let l = c .before .before .before .loop in
-    (omega arith, rw (c .more .ensures) (summed gas stage (lines s) blankStage (omega (arith, long s)) (l .inv .1) (one s (l .i) (omega arith) (omega arith))))
+    let l = c .before .before .before in
+    let s = S l in
+    let p = one s (l .loop .i) (omega arith) (omega arith) in
+    (omega arith, rw (c .more .ensures) (summed gas stage (lines s) blankStage (omega (arith, long s)) (l .loop .inv .1) p))
 
 returns : tie.Need-returns Inv-loop μ-loop
 returns c =
-    let s = c .before .before .before .before in
-    let l = c .before .loop in
+    let l = c .before in
+    let s = S l in
     let n = s .args .stages .count .0 in
-    let e : l .i ≡ min n 12 = omega arith in
-    as-it-is (blocked gas stage (lines s) n 12 (long s) e (l .inv .1) .is)
+    let e : l .loop .i ≡ min n stagesMost = omega arith in
+    as-it-is (blocked gas stage (lines s) n stagesMost (long s) e (l .loop .inv .1) .is)
 
 pub total-gas-spec : {M : Type 1} → statement M
 total-gas-spec =

@@ -44,12 +44,22 @@ found c = c .heats-of .ensures _ (c .before .pre .1)
 five-requires : tie.Need-five-requires
 five-requires c κs =
     let ks = known (found c) in
-    record { two = fit ks (raw 0 ⟨+⟩ raw 1) tt; three = fit ks (raw 0 ⟨+⟩ raw 1 ⟨+⟩ raw 2) tt; four = fit ks (raw 0 ⟨+⟩ raw 1 ⟨+⟩ raw 2 ⟨+⟩ raw 3) tt; five = fit ks income tt }
+    record {
+      two = fit ks (raw 0 ⟨+⟩ raw 1) tt;
+      three = fit ks (raw 0 ⟨+⟩ raw 1 ⟨+⟩ raw 2) tt;
+      four = fit ks (raw 0 ⟨+⟩ raw 1 ⟨+⟩ raw 2 ⟨+⟩ raw 3) tt;
+      five = fit ks income tt;
+    }
 
 five-requires-2 : tie.Need-five-requires-2
 five-requires-2 c κs =
     let ks = known (found (c .before)) in
-    record { two = fit ks (raw 5 ⟨+⟩ raw 6) tt; three = fit ks (raw 5 ⟨+⟩ raw 6 ⟨+⟩ raw 7) tt; four = fit ks (raw 5 ⟨+⟩ raw 6 ⟨+⟩ raw 7 ⟨+⟩ raw 8) tt; five = fit ks solids tt }
+    record {
+      two = fit ks (raw 5 ⟨+⟩ raw 6) tt;
+      three = fit ks (raw 5 ⟨+⟩ raw 6 ⟨+⟩ raw 7) tt;
+      four = fit ks (raw 5 ⟨+⟩ raw 6 ⟨+⟩ raw 7 ⟨+⟩ raw 8) tt;
+      five = fit ks solids tt;
+    }
 
 three-requires : tie.Need-three-requires
 three-requires c κs = let ks = known (found (c .before .before)) in record { two = fit ks (raw 10 ⟨+⟩ raw 11) tt; three = fit ks gases tt }
@@ -76,6 +86,10 @@ three-requires-2 c κs =
 plus-requires-2 : tie.Need-plus-requires-2
 plus-requires-2 c κs = rw (c .three2 .ensures) (fit (known (found (P (c .before) .before .before .before .before))) (used ⟨+⟩ raw 8) tt)
 
+-- before the sums are laid down
+abbrev sums-at : tie.After-struct-told5 → tie.After-struct-told
+sums-at c = c .before .before .before .before
+
 -- one heat, and those behind it
 infixr 5 _&_
 abbrev _&_ : {A B : Type 0} → A → B → A × B
@@ -84,7 +98,7 @@ _&_ a b = (a, b)
 returns : tie.Need-returns
 unfolding x11 heats useful withset
 returns c =
-    let withset-at = c .before .before .before .before .before in
+    let withset-at = sums-at c .before in
     let useful-at = withset-at .before in
     let left-at = useful-at .before in
     let spent-at = P left-at in
@@ -98,7 +112,8 @@ returns c =
     ring (x1 f paper ∷ x2 f paper ∷ x3 f paper ∷ x5 f paper ∷ x10 f paper ∷ x7 f paper ∷ x8 f paper ∷ x9 f paper ∷ [])
     (v 0 ⊕ v 1 ⊕ v 2 ⊕ v 3 ⊕ v 5 ⊕ v 6 ⊕ v 7 ⊕ v 4) (v 0 ⊕ v 1 ⊕ v 2 ⊕ v 3 ⊕ v 4 ⊕ (v 5 ⊕ v 6 ⊕ v 7)) tt in
     let incomes = plus (plus (plus (plus (h .q1 .is) (h .q2 .is)) (h .q3 .is)) (h .q5 .is)) (h .q8 .is) in
-    let expenses = plus (plus (plus (plus (plus (h .x1 .is) (h .x2 .is)) (h .x3 .is)) (h .x5 .is)) (h .x10 .is)) (plus (plus (h .x7 .is) (h .x8 .is)) (h .x9 .is)) in
+    let taken = plus (plus (plus (plus (h .x1 .is) (h .x2 .is)) (h .x3 .is)) (h .x5 .is)) (h .x10 .is) in
+    let expenses = plus taken (plus (plus (h .x7 .is) (h .x8 .is)) (h .x9 .is)) in
     let uses = plus (plus (h .water .is) (h .x3 .is)) (h .x1 .is) in
     let spent = spent-at .plus .ensures ∙ ap₂ _+ℤ_ (solids-at .five2 .ensures) (gases-at .three .ensures) in
     let left = left-at .minus .ensures ∙ ap₂ _-ℤ_ (income-at .five .ensures) spent in

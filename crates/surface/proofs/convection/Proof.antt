@@ -1,4 +1,4 @@
--- The rise is not negative, so it goes over into a size; its term is below 2³¹ and comes back. Assumes nothing.
+-- The rise is not negative, so it goes over into a size; its term is small and comes back. Assumes nothing.
 use mathlib.Core.Path.{_≡_, ap, _∙_}
 use Prim.Native.Nat.{_≤_}
 use native.Mathlib.Nat.{lt-of-le-of-lt}
@@ -13,6 +13,7 @@ use Rattle.arith.specs.Root.{root}
 use Rattle.arith.proofs.Order.{abs≤⁺}
 use Rattle.formulas.specs.Rounding.{square}
 use Rattle.formulas.specs.Formulas.{placed}
+use Rattle.formulas.specs.Sizes.{convectionMost}
 use Rattle.surface.proofs.Terms.{placed-most, term-most}
 use Rattle.surface.proofs.convection.Statement.{statement}
 use Rattle.surface.proofs.convection.Tie as tie
@@ -41,7 +42,7 @@ module _ (c : tie.After-cut-down) where
       let f : SFits w64 (c .before .before .before .args .rise .0) = search needs in
       rw (toZ-ofZ f) at (c .cut-down .ensures)
 
-  size : c .cut-down .result ≤ 1866132891
+  size : c .cut-down .result ≤ convectionMost
   size =
       let p = c .before .before .before .pre in
       rw term (term-most (placed-most (c .before .before .before .args .place .0)) (abs≤⁺ (p .low) (p .high)))

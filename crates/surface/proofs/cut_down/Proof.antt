@@ -1,14 +1,15 @@
--- The square fits 64 bits: it is at most 3,482,451,968,000,000,000. Assumes nothing.
+-- The greatest square fits 64 bits. Assumes nothing.
 use mathlib.Core.List.{List, [], _∷_}
 use Prim.Native.Nat.{ℕ, _≤_}
 use borrow.Author.Needs.{needs}
 use lib.IntN.{pos}
 use mir.Syntax.{w64}
 use Rattle.arith.proofs.Machine.{Known, upto, arg, num, _⟨*⟩_, fits-nat}
+use Rattle.formulas.specs.Sizes.{placedMost, warmerMost}
 use Rattle.surface.proofs.cut_down.Statement.{statement}
 use Rattle.surface.proofs.cut_down.Tie as tie
 
-abbrev known : {a rise : ℕ} → (a ≤ 326) × (rise ≤ 3200) → List Known
+abbrev known : {a rise : ℕ} → (a ≤ placedMost) × (rise ≤ warmerMost) → List Known
 known p = upto (p .0) ∷ upto (p .1) ∷ []
 
 mul-floor-root : tie.Need-mul-floor-root

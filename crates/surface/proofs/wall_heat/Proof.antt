@@ -3,14 +3,13 @@ use mathlib.Core.Path.{refl}
 use mathlib.Core.List.{[], _∷_}
 use Prim.Native.Nat.{_/_, _^_}
 use borrow.Author.Needs.{needs}
-use lib.Dec.{lit<}
 use lib.IntN.{pos}
 use Rattle.arith.proofs.Ring.{v, #, _⊗_, ring}
 use Rattle.arith.proofs.Machine.{raw, num, _⟨*⟩_}
 use Rattle.formulas.specs.Formulas.{joule, wallHeat}
 use Rattle.surface.specs.Cells.{wallOf}
-use Rattle.formulas.proofs.Units.{same, times, finer, coarser, rounded}
-use Rattle.formulas.proofs.Sizes.{within, limits, most, fit}
+use Rattle.formulas.proofs.Units.{same, times, finer, coarser}
+use Rattle.formulas.proofs.Sizes.{within, limits, fit, rounded}
 use Rattle.surface.proofs.wall_heat.Statement.{statement}
 use Rattle.surface.proofs.wall_heat.Tie as tie
 
@@ -40,10 +39,11 @@ returns c =
     let m = s .args .stage .minutes .0 in
     λ w e₁ e₂.
     let at = flux .ensures w e₁ e₂ in
-    let size = most (within (at .size) ∷ limits (s .pre .wall .section .area) ∷ limits (s .pre .stage .minutes) ∷ []) (raw 0 ⟨*⟩ raw 1 ⟨*⟩ raw 2 ⟨*⟩ num (pos 6)) {B = 807647678092800000} tt in
     let ten = ring (flux .result .0 ∷ a ∷ m ∷ []) (v 0 ⊗ v 1 ⊗ v 2 ⊗ # 6 ⊗ # 10) (v 0 ⊗ v 1 ⊗ v 2 ⊗ # 60) tt in
     let sixty = finer (times (times (times (at .is) a) m) (pos 60)) (joule / 10 ^ 16) in
-    rounded 1000000 (joule / 10 ^ 6) (lit< tt) (lit< tt) (coarser 10 (same ten sixty)) size (lit< tt) (rw (c .joules .ensures, c .before .lost .ensures))
+    rounded (within (at .size) ∷ limits (s .pre .wall .section .area) ∷ limits (s .pre .stage .minutes) ∷ [])
+    (raw 0 ⟨*⟩ raw 1 ⟨*⟩ raw 2 ⟨*⟩ num (pos 6)) (10 ^ 6) (joule / 10 ^ 6) tt
+    (coarser 10 (same ten sixty)) (rw (c .joules .ensures, c .before .lost .ensures))
 
 pub wall-heat-spec : {M : Type 1} → statement M
 wall-heat-spec = tie.close (tie.spec flux-at-requires lost-requires joules-requires returns)

@@ -10,6 +10,7 @@ use Rattle.quantity.specs.declared.gas.Share.{Share}
 use Rattle.sheet.specs.Shown.{gas}
 use Rattle.lines.specs.Tests.{weigh}
 use Rattle.lines.specs.Rows.{gasRow}
+use Rattle.formulas.specs.Sizes.{butaneAir, butaneDry, butaneVapour}
 use Rattle.fuel.proofs.Shares.{airs, dries, vapours, column-next, column-fits, weigh-size, air-is, dry-is, vapour-is}
 use Rattle.fuel.proofs.mixture.burning_of.Statement.{statement}
 use Rattle.fuel.proofs.mixture.burning_of.Tie as tie
@@ -44,9 +45,9 @@ brighter-requires c κs =
     let l = c .before .before .before .loop in
     let h : l .i < 13 = omega arith in
     let sums = l .inv .1 in
-    let air = column-fits (λ k. k .air) refl (s .args .t1) (l .i) h 3094 (s .pre) tt tt in
-    let dry = column-fits (λ k. k .dry) refl (s .args .t1) (l .i) h 400000 (s .pre) tt tt in
-    let vapour = column-fits (λ k. k .vapour) refl (s .args .t1) (l .i) h 225000000000000 (s .pre) tt tt in
+    let air = column-fits (λ k. k .air) refl (s .args .t1) (l .i) h butaneAir (s .pre) tt tt in
+    let dry = column-fits (λ k. k .dry) refl (s .args .t1) (l .i) h butaneDry (s .pre) tt tt in
+    let vapour = column-fits (λ k. k .vapour) refl (s .args .t1) (l .i) h butaneVapour (s .pre) tt tt in
     record {
       air = rw (sums .0) air;
       dry = rw (sums .1 .0) dry;
@@ -81,7 +82,11 @@ returns c =
     rw (air, dry, vapour)
     (record {
       is = rw (air-is (gas shares), dry-is (gas shares), vapour-is (gas shares)) refl;
-      within = record { air = weigh-size 3094 airs 13 (s .pre) tt; dry = weigh-size 400000 dries 13 (s .pre) tt; vapour = weigh-size 225000000000000 vapours 13 (s .pre) tt };
+      within = record {
+        air = weigh-size butaneAir airs 13 (s .pre) tt;
+        dry = weigh-size butaneDry dries 13 (s .pre) tt;
+        vapour = weigh-size butaneVapour vapours 13 (s .pre) tt;
+      };
     })
 
 pub burning-of-spec : {M : Type 1} → statement M

@@ -13,6 +13,7 @@ use Rattle.quantity.specs.declared.gas.Share.{Share}
 use Rattle.sheet.specs.Shown.{gas}
 use Rattle.lines.specs.Tests.{weigh}
 use Rattle.lines.specs.Rows.{gasRow}
+use Rattle.formulas.specs.Sizes.{coldMost, riseMost}
 use Rattle.fuel.proofs.Shares.{colds, rises, column-next, column-size, column-fits, weigh-size, heat-is}
 use Rattle.fuel.proofs.mixture.warmth_of.Statement.{statement}
 use Rattle.fuel.proofs.mixture.warmth_of.Tie as tie
@@ -47,10 +48,10 @@ warmer-requires c κs =
     let l = c .before .before .before .loop in
     let h : l .i < 13 = omega arith in
     let sums = l .inv .1 in
-    let cold = column-fits (λ k. k .cold) refl (s .args .t1) (l .i) h 4122 (s .pre) tt tt in
-    let rise = column-fits (λ k. k .hot -ℤ k .cold) refl (s .args .t1) (l .i) h 1128 (s .pre) tt tt in
+    let cold = column-fits (λ k. k .cold) refl (s .args .t1) (l .i) h coldMost (s .pre) tt tt in
+    let rise = column-fits (λ k. k .hot -ℤ k .cold) refl (s .args .t1) (l .i) h riseMost (s .pre) tt tt in
     record {
-      difference = sfits-abs (lt-of-le-of-lt (column-size (λ k. k .hot -ℤ k .cold) refl (s .args .t1) (l .i) h 1128 tt) (lit< tt));
+      difference = sfits-abs (lt-of-le-of-lt (column-size (λ k. k .hot -ℤ k .cold) refl (s .args .t1) (l .i) h riseMost tt) (lit< tt));
       cold = rw (sums .0) cold;
       rise = rw (sums .1) rise;
     }
@@ -81,8 +82,8 @@ returns c =
     let rise = sums .1 ∙ ap (so-far rises shares) end in
     record {
       heat = λ T. rw (cold, rise) (heat-is (gas shares) T);
-      cold = rw cold (weigh-size 4122 colds 13 (s .pre) tt);
-      rise = rw rise (weigh-size 1128 rises 13 (s .pre) tt);
+      cold = rw cold (weigh-size coldMost colds 13 (s .pre) tt);
+      rise = rw rise (weigh-size riseMost rises 13 (s .pre) tt);
     }
 
 pub warmth-of-spec : {M : Type 1} → statement M

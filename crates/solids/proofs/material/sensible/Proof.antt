@@ -2,11 +2,10 @@
 use mathlib.Core.List.{[], _∷_}
 use Prim.Native.Nat.{_/_, _^_}
 use borrow.Author.Needs.{needs}
-use lib.Dec.{lit<}
 use Rattle.arith.proofs.Machine.{raw, _⟨-⟩_, _⟨*⟩_}
 use Rattle.formulas.specs.Formulas.{joule, sensible}
-use Rattle.formulas.proofs.Units.{units, rounded}
-use Rattle.formulas.proofs.Sizes.{within, most, fit}
+use Rattle.formulas.proofs.Units.{units}
+use Rattle.formulas.proofs.Sizes.{within, fit, rounded}
 use Rattle.solids.proofs.material.sensible.Statement.{statement}
 use Rattle.solids.proofs.material.sensible.Tie as tie
 
@@ -32,7 +31,8 @@ returns c =
     let h = c .before .before .before .specific-heat .ensures in
     let p = s .pre in
     let ks = within (p .mass) ∷ within (rw (h .is) at (h .size)) ∷ within (p .at) ∷ within (p .from) ∷ [] in
-    rounded 1000000 (joule / 10 ^ 6) (lit< tt) (lit< tt) units (most ks (raw 0 ⟨*⟩ raw 1 ⟨*⟩ (raw 2 ⟨-⟩ raw 3)) {B = 3600000000000000000} tt) (lit< tt) (rw (c .joules .ensures, c .before .stored .ensures, c .before .before .above .ensures, h .is))
+    rounded ks (raw 0 ⟨*⟩ raw 1 ⟨*⟩ (raw 2 ⟨-⟩ raw 3)) (10 ^ 6) (joule / 10 ^ 6) tt units
+    (rw (c .joules .ensures, c .before .stored .ensures, c .before .before .above .ensures, h .is))
 
 pub sensible-spec : {M : Type 1} → statement M
 sensible-spec =

@@ -39,18 +39,19 @@ array-copy-out-straight : tie.Need-array-copy-out-straight
 array-copy-out-straight c = search needs
 
 straight-requires : tie.Need-straight-requires
-straight-requires c κs = straight-fits (c .before .row .result) (c .before .before .before .before .before .pre .at)
+straight-requires c κs = let w = c .before in straight-fits (w .row .result) (w .before .before .before .before .pre .at)
 
 returns-2 : tie.Need-returns-2
 unfolding specificHeat
 returns-2 c =
-    let s = c .before .before .before .before .before .before in
+    let w = c .before .before in
+    let s = w .before .before .before .before in
     let m = s .args .stuff .material .0 in
-    let w = c .before .before .row in
+    let T = s .args .at .0 in
     let other : eqb m 0 ≡ false = ne-eqb m 0 (λ e. omega arith) in
-    let e : c .straight .result .0 ≡ byTable (w .result) (s .args .at .0) = c .straight .ensures in
-    let same : byTable (w .result) (s .args .at .0) ≡ byTable (lineOf m (s .args .at .0)) (s .args .at .0) = ap (λ (x : Line). x .a *ℤ pos 100000 +ℤ x .b *ℤ s .args .at .0) (w .ensures .same) in
-    record { is = rw other (e ∙ same); size = rw e (straight-size (w .result) (s .pre .at)) }
+    let e : c .straight .result .0 ≡ byTable (w .row .result) T = c .straight .ensures in
+    let same : byTable (w .row .result) T ≡ byTable (lineOf m T) T = ap (λ (x : Line). x .a *ℤ pos 100000 +ℤ x .b *ℤ T) (w .row .ensures .same) in
+    record { is = rw other (e ∙ same); size = rw e (straight-size (w .row .result) (s .pre .at)) }
 
 pub specific-heat-spec : {M : Type 1} → statement M
 specific-heat-spec =

@@ -12,6 +12,7 @@ use Rattle.sheet.specs.Shown.{setter}
 use Rattle.lines.specs.Limits.{SetterIn}
 use Rattle.formulas.specs.Rounding.{paper}
 use Rattle.formulas.specs.Formulas.{joule, sum, sensible, q3, x5}
+use Rattle.formulas.specs.Sizes.{settersMost, sensibleMost}
 use Rattle.formulas.proofs.Sizes.{sized}
 use Rattle.formulas.proofs.Sums.{unmapped, first, each, Running, none, more-fits, summed, blocked}
 use Rattle.solids.proofs.Blank.{blankSetter}
@@ -27,7 +28,9 @@ taken highest x = sensible paper (x .mass) (x .stuff) highest (x .entry)
 
 abbrev Inv-loop : tie.InvT-loop
 Inv-loop t highest lines count q3₀ x5₀ i₀ q3 x5 i =
-    (i ≤ count) × Running joule 3600000000000 i (q3 .0) (first (brought (t .0)) setter lines i) × Running joule 3600000000000 i (x5 .0) (first (taken (highest .0)) setter lines i)
+    (i ≤ count)
+    × Running joule sensibleMost i (q3 .0) (first (brought (t .0)) setter lines i)
+    × Running joule sensibleMost i (x5 .0) (first (taken (highest .0)) setter lines i)
 
 abbrev μ-loop : tie.MeasureT-loop
 μ-loop t highest lines count q3₀ x5₀ i₀ q3 x5 i = count - i
@@ -35,8 +38,15 @@ abbrev μ-loop : tie.MeasureT-loop
 abbrev lines : tie.Start Inv-loop μ-loop → List Setterˢ
 lines s = s .args .setters .lines
 
-long : (s : tie.Start Inv-loop μ-loop) → length (lines s) ≡ 32
+long : (s : tie.Start Inv-loop μ-loop) → length (lines s) ≡ settersMost
 long s = search (needs, unmapped)
+
+-- from the setter of a turn: the loop, and the start
+abbrev L : tie.After-setter Inv-loop μ-loop → tie.At-loop Inv-loop μ-loop
+L c = c .before .before
+
+abbrev S : tie.At-loop Inv-loop μ-loop → tie.Start Inv-loop μ-loop
+S c = c .before .before .before
 
 held-requires : tie.Need-held-requires Inv-loop μ-loop
 held-requires c κs = search needs
@@ -47,12 +57,15 @@ loop-holds c = (omega arith, none, none)
 
 loop-again : tie.Need-loop-again Inv-loop μ-loop
 loop-again c =
-    let l = c .before .before .before .before .before .before in
-    let s = l .before .before .before in
+    let second = c .before in
+    let both = second .before in
+    let one = both .before in
+    let l = L (one .before) in
+    let s = S l in
     let inside : l .loop .i < length (lines s) = omega (arith, long s) in (
       omega arith,
-      rw (c .before .before .plus .ensures) (summed (brought (s .args .t .0)) setter (lines s) blankSetter inside (l .loop .inv .1) (c .before .before .before .sensible .ensures)),
-      rw (c .plus2 .ensures) (summed (taken (s .args .highest .0)) setter (lines s) blankSetter inside (l .loop .inv .2) (c .before .sensible2 .ensures)),
+      rw (both .plus .ensures) (summed (brought (s .args .t .0)) setter (lines s) blankSetter inside (l .loop .inv .1) (one .sensible .ensures)),
+      rw (c .plus2 .ensures) (summed (taken (s .args .highest .0)) setter (lines s) blankSetter inside (l .loop .inv .2) (second .sensible2 .ensures)),
     )
 
 mul-setter : tie.Need-mul-setter Inv-loop μ-loop
@@ -62,26 +75,28 @@ array-copy-out-setter : tie.Need-array-copy-out-setter Inv-loop μ-loop
 array-copy-out-setter c = omega arith
 
 -- the setter of this turn is within its limits
-within : (c : tie.After-setter Inv-loop μ-loop) → SetterIn (setter (getD (lines (c .before .before .before .before .before)) (c .before .before .loop .i) blankSetter))
+within : (c : tie.After-setter Inv-loop μ-loop) → SetterIn (setter (getD (lines (S (L c))) (L c .loop .i) blankSetter))
 within c =
-    let s = c .before .before .before .before .before in
-    each SetterIn setter (lines s) (s .args .setters .count .0) (c .before .before .loop .i) blankSetter (s .pre .0 .each) (omega arith) (omega (arith, long s))
+    let s = S (L c) in
+    each SetterIn setter (lines s) (s .args .setters .count .0) (L c .loop .i) blankSetter (s .pre .0 .each) (omega arith) (omega (arith, long s))
 
 sensible-requires : tie.Need-sensible-requires Inv-loop μ-loop
 sensible-requires c κs =
     let h = within c in
-    record { mass = sized (h .mass) tt; stuff = h .stuff; at = sized (h .entry) tt; from = c .before .before .before .before .before .pre .0 .other }
+    let s = S (L c) in
+    record { mass = sized (h .mass) tt; stuff = h .stuff; at = sized (h .entry) tt; from = s .pre .0 .other }
 
 plus-requires : tie.Need-plus-requires Inv-loop μ-loop
-plus-requires c κs = more-fits (c .before .before .before .loop .inv .1) (c .sensible .ensures) 32 (omega arith) tt
+plus-requires c κs = more-fits (L (c .before) .loop .inv .1) (c .sensible .ensures) settersMost (omega arith) tt
 
 sensible-requires-2 : tie.Need-sensible-requires-2 Inv-loop μ-loop
 sensible-requires-2 c κs =
     let h = within (c .before .before) in
-    record { mass = sized (h .mass) tt; stuff = h .stuff; at = c .before .before .before .before .before .before .before .pre .1; from = sized (h .entry) tt }
+    let s = S (L (c .before .before)) in
+    record { mass = sized (h .mass) tt; stuff = h .stuff; at = s .pre .1; from = sized (h .entry) tt }
 
 plus-requires-2 : tie.Need-plus-requires-2 Inv-loop μ-loop
-plus-requires-2 c κs = more-fits (c .before .before .before .before .before .loop .inv .2) (c .sensible2 .ensures) 32 (omega arith) tt
+plus-requires-2 c κs = more-fits (L (c .before .before .before) .loop .inv .2) (c .sensible2 .ensures) settersMost (omega arith) tt
 
 add-i : tie.Need-add-i Inv-loop μ-loop
 add-i c = search needs
@@ -92,12 +107,12 @@ loop-less c = search needs
 returns : tie.Need-returns Inv-loop μ-loop
 unfolding q3 x5
 returns c =
-    let s = c .before .before .before .before in
-    let l = c .before .loop in
+    let l = c .before in
+    let s = S l in
     let n = s .args .setters .count .0 in
-    let e : l .i ≡ min n 32 = omega arith in (
-      λ f e₁ e₂. rw (e₁, e₂) (blocked (brought (s .args .t .0)) setter (lines s) n 32 (long s) e (l .inv .1)),
-      λ f e₁ e₂. rw (e₁, e₂) (blocked (taken (s .args .highest .0)) setter (lines s) n 32 (long s) e (l .inv .2)),
+    let e : l .loop .i ≡ min n settersMost = omega arith in (
+      λ f e₁ e₂. rw (e₁, e₂) (blocked (brought (s .args .t .0)) setter (lines s) n settersMost (long s) e (l .loop .inv .1)),
+      λ f e₁ e₂. rw (e₁, e₂) (blocked (taken (s .args .highest .0)) setter (lines s) n settersMost (long s) e (l .loop .inv .2)),
     )
 
 pub setter-heats-spec : {M : Type 1} → statement M

@@ -2,15 +2,15 @@
 use mathlib.Core.List.{[], _∷_}
 use Prim.Native.Nat.{ℕ, _/_, _≤_}
 use borrow.Author.Needs.{needs}
-use lib.Dec.{lit<, lit≤}
+use lib.Dec.{lit≤}
 use lib.IntN.{ℤ, pos}
 use Rattle.arith.proofs.Machine.{Mx, upto, raw, num, _⟨+⟩_, _⟨-⟩_, _⟨*⟩_}
 use Rattle.lines.specs.Quantities.{temperature}
 use Rattle.lines.specs.Limits.{In}
 use Rattle.solids.specs.Steps.{BoiledFits}
 use Rattle.formulas.specs.Formulas.{joule, waterHeat}
-use Rattle.formulas.proofs.Units.{units, rounded}
-use Rattle.formulas.proofs.Sizes.{limits, most, fit}
+use Rattle.formulas.proofs.Units.{units}
+use Rattle.formulas.proofs.Sizes.{limits, fit, rounded}
 use Rattle.solids.proofs.water.water_heat.Statement.{statement}
 use Rattle.solids.proofs.water.water_heat.Tie as tie
 
@@ -54,8 +54,9 @@ unfolding waterHeat
 returns c =
     let p = c .before .before .before .before .pre in
     let ks = limits (p .water .adsorbed) ∷ limits (p .water .crystal) ∷ limits (p .entry) ∷ [] in
-    let size = most ks (raw 0 ⟨*⟩ boil 2 25 ⟨+⟩ raw 1 ⟨*⟩ boil 2 450) {B = 8775250000000} tt in
-    λ f e₁ e₂. rw (e₁, e₂) (rounded 10 (joule / 10) (lit< tt) (lit< tt) units size (lit< tt) (rw (c .joules .ensures, c .before .two-waters .ensures, c .before .before .boiled2 .ensures, c .before .before .before .boiled .ensures)))
+    λ f e₁ e₂.
+    rw (e₁, e₂) (rounded ks (raw 0 ⟨*⟩ boil 2 25 ⟨+⟩ raw 1 ⟨*⟩ boil 2 450) 10 (joule / 10) tt units
+    (rw (c .joules .ensures, c .before .two-waters .ensures, c .before .before .boiled2 .ensures, c .before .before .before .boiled .ensures)))
 
 pub water-heat-spec : {M : Type 1} → statement M
 water-heat-spec = tie.close (tie.spec boiled-requires boiled-requires-2 two-waters-requires joules-requires returns)

@@ -2,22 +2,26 @@
 use mathlib.Core.List.{[], _∷_}
 use Prim.Native.Nat.{_/_}
 use borrow.Author.Needs.{needs}
-use lib.Dec.{lit<}
 use lib.IntN.{pos}
-use Rattle.arith.proofs.Machine.{raw, num, _⟨+⟩_, _⟨-⟩_, _⟨*⟩_}
+use Rattle.arith.proofs.Machine.{Mx, raw, num, _⟨+⟩_, _⟨-⟩_, _⟨*⟩_}
 use Rattle.formulas.specs.Formulas.{joule, x2}
-use Rattle.formulas.proofs.Units.{units, rounded}
-use Rattle.formulas.proofs.Sizes.{limits, most, fit}
+use Rattle.formulas.proofs.Units.{units}
+use Rattle.formulas.proofs.Sizes.{limits, fit, rounded}
 use Rattle.solids.proofs.water.x2.Statement.{statement}
 use Rattle.solids.proofs.water.x2.Tie as tie
+
+-- 2490 + 1.93 (flue − t)
+abbrev bracket : Mx
+bracket = num (pos 2490000) ⟨+⟩ num (pos 193) ⟨*⟩ (raw 2 ⟨-⟩ raw 3)
 
 returns : tie.Need-returns
 unfolding x2
 returns c =
     let p = c .before .before .before .before .pre in
     let ks = limits (p .water .adsorbed) ∷ limits (p .water .crystal) ∷ limits (p .water .flue) ∷ limits (p .ambient) ∷ [] in
-    let size = most ks ((raw 0 ⟨+⟩ raw 1) ⟨*⟩ (num (pos 2490000) ⟨+⟩ num (pos 193) ⟨*⟩ (raw 2 ⟨-⟩ raw 3))) {B = 9689200000000} tt in
-    λ f e₁ e₂. rw (e₁, e₂) (rounded 10 (joule / 10) (lit< tt) (lit< tt) units size (lit< tt) (rw (c .joules .ensures, c .before .steam .ensures, c .before .before .above .ensures, c .before .before .before .degrees .ensures)))
+    λ f e₁ e₂.
+    rw (e₁, e₂) (rounded ks ((raw 0 ⟨+⟩ raw 1) ⟨*⟩ bracket) 10 (joule / 10) tt units
+    (rw (c .joules .ensures, c .before .steam .ensures, c .before .before .above .ensures, c .before .before .before .degrees .ensures)))
 
 degrees-requires : tie.Need-degrees-requires
 degrees-requires c κs = search needs
@@ -35,8 +39,8 @@ steam-requires c κs =
     (record {
       both = fit ks (raw 0 ⟨+⟩ raw 1) tt;
       on = fit ks (num (pos 193) ⟨*⟩ (raw 2 ⟨-⟩ raw 3)) tt;
-      bracket = fit ks (num (pos 2490000) ⟨+⟩ num (pos 193) ⟨*⟩ (raw 2 ⟨-⟩ raw 3)) tt;
-      all = fit ks ((raw 0 ⟨+⟩ raw 1) ⟨*⟩ (num (pos 2490000) ⟨+⟩ num (pos 193) ⟨*⟩ (raw 2 ⟨-⟩ raw 3))) tt;
+      bracket = fit ks bracket tt;
+      all = fit ks ((raw 0 ⟨+⟩ raw 1) ⟨*⟩ bracket) tt;
     })
 
 joules-requires : tie.Need-joules-requires

@@ -1,0 +1,193 @@
+-- How large what the formulas form can be: each size is computed from the limits of the sheet's quantities and from the sizes above it, so that
+-- a limit changes in its one place and the prover does the rest.
+use Prim.Native.Nat.{ℕ, _+_, _*_, _/_, _^_, _-_, max}
+use mathlib.Core.List.{List, [], _∷_}
+use lib.IntN.{ℤ, pos, natAbs, _+ℤ_, _-ℤ_, _*ℤ_}
+use Rattle.lines.specs.Schema.{Field}
+use Rattle.lines.specs.Quantities.{ambient, heating, fuelTemperature, share, moisture, mass, temperature, capacity, flue, cubicMetres, excess, monoxide, minutes, area, surface, nearAir, gasTotal}
+use Rattle.formulas.specs.Rounding.{square}
+use Rattle.formulas.specs.Tables.{tableA1, tableA2}
+use Rattle.formulas.specs.Formulas.{placed, fourth}
+
+-- ---- The rules: a quantity; the difference of two; an entry of a table's column
+abbrev pub most : Field → ℕ
+most x = max (natAbs (x .least)) (natAbs (x .greatest))
+
+abbrev pub apart : Field → Field → ℕ
+apart x y = max (natAbs (x .greatest -ℤ y .least)) (natAbs (x .least -ℤ y .greatest))
+
+abbrev pub column : {A : Type 0} → (A → ℤ) → List A → ℕ
+column f [] = 0
+column f (a ∷ l) = max (natAbs (f a)) (column f l)
+
+-- n over d, brought to the nearest: not above n over d rounded up
+abbrev pub upTo : ℕ → ℕ → ℕ
+upTo n d = (n + (d - 1)) / d
+
+-- the root of n, cut down: not above the mean of any x and n / x, which three times over comes near it
+abbrev pub mean : ℕ → ℕ → ℕ
+mean n x = (x + n / x) / 2
+
+abbrev pub rootUpTo : ℕ → ℕ
+rootUpTo n = mean n (mean n (mean n (2 * 10 ^ 9)))
+
+-- ---- How many lines a block has at most, and how many readings have room by section and stage
+abbrev pub stagesMost : ℕ
+stagesMost = 12
+
+abbrev pub settersMost : ℕ
+settersMost = 32
+
+abbrev pub partsMost : ℕ
+partsMost = 32
+
+abbrev pub sectionsMost : ℕ
+sectionsMost = 12
+
+abbrev pub cellsMost : ℕ
+cellsMost = sectionsMost * stagesMost
+
+-- ---- Specific heat: a and b of table A.2; and c that the sheet gives, which is more than any line of the table
+abbrev pub startMost : ℕ
+startMost = column (λ l. l .a) tableA2
+
+abbrev pub slopeMost : ℕ
+slopeMost = column (λ l. l .b) tableA2
+
+abbrev pub specificHeatMost : ℕ
+specificHeatMost = most capacity * 1000
+
+-- ---- m c (T − T₀) of any two temperatures: one, of all setters, of all parts
+abbrev pub massMost : ℕ
+massMost = most mass
+
+abbrev pub temperatureMost : ℕ
+temperatureMost = most temperature
+
+abbrev pub sensibleMost : ℕ
+sensibleMost = upTo (massMost * specificHeatMost * (2 * temperatureMost)) (10 ^ 6)
+
+abbrev pub settersHeatMost : ℕ
+settersHeatMost = settersMost * sensibleMost
+
+abbrev pub partsHeatMost : ℕ
+partsHeatMost = partsMost * sensibleMost
+
+-- ---- Income: q1; c of a gas at 0 °C and its rise to 100 °C, and of the mixture, whose shares add to 100 %; q2
+abbrev pub q1Most : ℕ
+q1Most = most gasTotal * most heating * 100
+
+abbrev pub coldMost : ℕ
+coldMost = column (λ k. k .cold) tableA1
+
+abbrev pub riseMost : ℕ
+riseMost = column (λ k. k .hot -ℤ k .cold) tableA1
+
+abbrev pub mixedColdMost : ℕ
+mixedColdMost = most share * coldMost
+
+abbrev pub mixedRiseMost : ℕ
+mixedRiseMost = most share * riseMost
+
+abbrev pub q2Most : ℕ
+q2Most = upTo (most gasTotal * (mixedColdMost * 1000 + mixedRiseMost * most fuelTemperature) * apart fuelTemperature ambient) (10 ^ 9)
+
+-- ---- Expenditure
+abbrev pub x2Most : ℕ
+x2Most = upTo (2 * massMost * (2490000 + 193 * apart flue ambient)) 10
+
+abbrev pub x3Most : ℕ
+x3Most = massMost * 108800
+
+-- ---- Flue: what a share of butane asks and gives, the most of all gases; and what a unit of fuel does
+abbrev pub butaneAir : ℕ
+butaneAir = 238 * 13
+
+abbrev pub butaneDry : ℕ
+butaneDry = 4 * 10 ^ 5
+
+abbrev pub butaneVapour : ℕ
+butaneVapour = 5 * (45 * 10 ^ 12)
+
+abbrev pub airMost : ℕ
+airMost = most share * butaneAir
+
+abbrev pub dryMost : ℕ
+dryMost = most share * butaneDry
+
+abbrev pub vapourMost : ℕ
+vapourMost = most share * butaneVapour
+
+-- a stage's dry flue; its vapour, for a unit of fuel and in all
+abbrev pub dryFlueMost : ℕ
+dryFlueMost = upTo (most cubicMetres * (dryMost + (most excess - 210) * airMost)) (10 ^ 5)
+
+abbrev pub vapourRateMost : ℕ
+vapourRateMost = upTo (1293 * most excess * airMost * most moisture * 56 + vapourMost) (56 * 10 ^ 7)
+
+abbrev pub vapourMassMost : ℕ
+vapourMassMost = upTo (vapourRateMost * most cubicMetres) (10 ^ 4)
+
+-- c (flue − t) of a m³ of dry flue, and a stage's heats
+abbrev pub carriedMost : ℕ
+carriedMost = 1384 * apart flue ambient
+
+abbrev pub dryHeatMost : ℕ
+dryHeatMost = upTo (dryFlueMost * carriedMost) (10 ^ 6)
+
+abbrev pub vapourHeatMost : ℕ
+vapourHeatMost = upTo (vapourMassMost * 193 * apart flue ambient) (10 ^ 6)
+
+abbrev pub flueHeatMost : ℕ
+flueHeatMost = dryHeatMost + vapourHeatMost
+
+abbrev pub monoxideHeatMost : ℕ
+monoxideHeatMost = upTo (dryFlueMost * most monoxide * 12750) (10 ^ 6)
+
+abbrev pub x7Most : ℕ
+x7Most = stagesMost * flueHeatMost
+
+abbrev pub x8Most : ℕ
+x8Most = stagesMost * monoxideHeatMost
+
+-- ---- Surface: A, of the roof; Δ; both terms of the flux; a reading's heat, and that of all cells
+abbrev pub placedMost : ℕ
+placedMost = placed 1
+
+abbrev pub warmerMost : ℕ
+warmerMost = apart surface nearAir
+
+abbrev pub convectionMost : ℕ
+convectionMost = rootUpTo (square placedMost warmerMost)
+
+abbrev pub radiationMost : ℕ
+radiationMost = upTo (454 * natAbs (fourth (surface .greatest) -ℤ fourth (nearAir .least))) (10 ^ 9)
+
+abbrev pub fluxMost : ℕ
+fluxMost = convectionMost + radiationMost
+
+abbrev pub wallHeatMost : ℕ
+wallHeatMost = upTo (fluxMost * most area * most minutes * 6) (10 ^ 6)
+
+abbrev pub x9Most : ℕ
+x9Most = cellsMost * wallHeatMost
+
+-- ---- Useful: (33) per kg, at either limit of the ware's temperature
+abbrev pub boiledAt : ℕ → ℤ → ℕ
+boiledAt Δ T = natAbs ((pos 1000 -ℤ T) *ℤ pos 418 +ℤ pos (2260000 + Δ * 1930))
+
+abbrev pub boiledMost : ℕ → ℕ
+boiledMost Δ = max (boiledAt Δ (temperature .least)) (boiledAt Δ (temperature .greatest))
+
+abbrev pub waterHeatMost : ℕ
+waterHeatMost = upTo (massMost * boiledMost 25 + massMost * boiledMost 450) 10
+
+-- ---- EVERY HEAT OF A BALANCE: none is more than both sides together
+abbrev pub incomesMost : ℕ
+incomesMost = q1Most + q2Most + settersHeatMost + sensibleMost + partsHeatMost
+
+abbrev pub expensesMost : ℕ
+expensesMost = sensibleMost + x2Most + x3Most + settersHeatMost + x7Most + x8Most + x9Most + partsHeatMost
+
+abbrev pub heatMost : ℕ
+heatMost = incomesMost + expensesMost
