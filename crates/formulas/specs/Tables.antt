@@ -1,14 +1,12 @@
--- The tables of document 01: A.2 of the refractories by material code, and A.1 of the gases in the gas line's order, with what each gas
--- asks of the air and gives to the flue.
-use Prim.Native.Nat.{ℕ, _*_, _^_}
+-- The tables of document 01: A.2 of the refractories by material code, and A.1 of the gases in the gas line's order.
+use Prim.Native.Nat.{ℕ}
 use mathlib.Core.Bool.{cond}
 use mathlib.Core.List.{List, [], _∷_}
 use lib.Dec.{eqb}
-use lib.IntN.{ℤ, pos, negsuc}
+use lib.IntN.{ℤ, pos}
 use lib.ListN.{getD}
 use lib.Signed.{leZ}
 use Rattle.formulas.specs.declared.Line.{Line}
-use Rattle.formulas.specs.declared.Kind.{Kind}
 
 -- a + b T, with a in 0.01 and b in 1e-6 kJ/(kg·°C)
 abbrev pub line : ℕ → ℕ → Line
@@ -46,24 +44,27 @@ lineOf m T = cond (leZ T (pos 8000)) m (cond (eqb m 3) 19 (cond (eqb m 12) 20 m)
 abbrev pub lineAt : ℕ → Line
 lineAt i = getD tableA2 i (line 0 0)
 
--- c at 0 and at 100 °C in 0.001 kJ/(m³·°C); and for each share, in the units of `Burning`: theoretical air (B.3), and from the m³ of dry flue
--- (B.10) and of vapour (B.15) that a m³ of the gas gives
-abbrev pub kind : ℕ → ℕ → ℤ → ℕ → ℕ → Kind
-kind c h a d v = record { cold = pos c; hot = pos h; air = a; dry = pos (d * 10 ^ 5); vapour = pos (v * (45 * 10 ^ 12)) }
+-- c at 0 and at 100 °C, in 0.001 kJ/(m³·°C)
+pub record GasHeat : Type 0 where
+  pub cold : ℤ
+  pub hot : ℤ
 
-abbrev pub tableA1 : List Kind
+abbrev pub between : ℕ → ℕ → GasHeat
+between c h = record { cold = pos c; hot = pos h }
+
+abbrev pub tableA1 : List GasHeat
 tableA1 =
-    kind 1275 1287 (pos 238) 0 1  -- H2
-    ∷ kind 1296 1300 (pos 0) 1 0  -- N2
-    ∷ kind 1300 1301 (pos 238) 1 0  -- CO
-    ∷ kind 1304 1317 (negsuc 475) 0 0  -- O2
-    ∷ kind 1488 1501 (pos 0) 0 1  -- H2O
-    ∷ kind 1597 1697 (pos 0) 1 0  -- CO2
-    ∷ kind 1563 1651 (pos 952) 1 2  -- CH4
-    ∷ kind 1869 2103 (pos 1428) 2 2  -- C2H4
-    ∷ kind 2061 2061 (pos 1666) 2 3  -- C2H6
-    ∷ kind 3043 3959 (pos 2380) 3 4  -- C3H8
-    ∷ kind 4122 5250 (pos 3094) 4 5  -- C4H10
-    ∷ kind 1530 1559 (pos 714) 1 1  -- H2S
-    ∷ kind 1777 1860 (pos 0) 1 0  -- SO2
+    between 1275 1287  -- H2
+    ∷ between 1296 1300  -- N2
+    ∷ between 1300 1301  -- CO
+    ∷ between 1304 1317  -- O2
+    ∷ between 1488 1501  -- H2O
+    ∷ between 1597 1697  -- CO2
+    ∷ between 1563 1651  -- CH4
+    ∷ between 1869 2103  -- C2H4
+    ∷ between 2061 2061  -- C2H6
+    ∷ between 3043 3959  -- C3H8
+    ∷ between 4122 5250  -- C4H10
+    ∷ between 1530 1559  -- H2S
+    ∷ between 1777 1860  -- SO2
     ∷ []

@@ -24,16 +24,18 @@ use Rattle.lines.specs.Tests.{weigh, sumOf, all, airWeights}
 use Rattle.lines.specs.Rules.{Every}
 use Rattle.lines.specs.Rows.{gasRow}
 use Rattle.lines.specs.Limits.{In, GasIn}
-use Rattle.formulas.specs.declared.Kind.{Kind}
-use Rattle.formulas.specs.Tables.{tableA1, kind}
+use Rattle.formulas.specs.Tables.{GasHeat, between, tableA1}
 use Rattle.formulas.specs.Formulas.{mixedHeat, theoreticalAir, dryOfGas, vapourOfGas, ofGas}
 use Rattle.formulas.specs.Figures.{Within}
 use Rattle.formulas.specs.Sizes.{most}
+use Rattle.fuel.specs.declared.mixture.Kind.{Kind}
+use Rattle.fuel.specs.Kinds.{flow, kind, kinds}
 use Rattle.fuel.specs.Mixture.{Fits}
 use Rattle.formulas.proofs.Sizes.{sized, entry}
 
 -- ---- one gas more
-pub weigh-next : (ws zs : List ℤ) (i : ℕ) → i < length ws → i < length zs → weigh (take (suc i) ws) zs ≡ weigh (take i ws) zs +ℤ getD ws i (pos 0) *ℤ getD zs i (pos 0)
+weigh-next : (ws zs : List ℤ) (i : ℕ) → i < length ws → i < length zs →
+    weigh (take (suc i) ws) zs ≡ weigh (take i ws) zs +ℤ getD ws i (pos 0) *ℤ getD zs i (pos 0)
 weigh-next [] zs i h k = absurd (not-suc-le-zero h)
 weigh-next (w ∷ ws) [] i h k = absurd (not-suc-le-zero k)
 weigh-next (w ∷ ws) (z ∷ zs) zero h k = ring (w ∷ z ∷ []) (v 0 ⊗ v 1 ⊕ # 0) (# 0 ⊕ v 0 ⊗ v 1) tt
@@ -66,10 +68,10 @@ share-at l i h =
     ∙ List·getD-map (λ x. x .0) l i none
 
 abbrev noKind : Kind
-noKind = kind 0 0 (pos 0) 0 0
+noKind = kind (between 0 0) (flow (pos 0) 0 0)
 
 abbrev pub kindAt : ℕ → Kind
-kindAt i = getD tableA1 i noKind
+kindAt i = getD kinds i noKind
 
 -- ---- the formulas as columns
 -- the sum of a column, over the shares as variables
@@ -78,19 +80,23 @@ column [] i = # 0
 column (w ∷ ws) i = lit w ⊗ v i ⊕ column ws (suc i)
 
 abbrev pub airs : List ℤ
-airs = map (λ k. k .air) tableA1
+airs = map (λ k. k .air) kinds
 
 abbrev pub dries : List ℤ
-dries = map (λ k. k .dry) tableA1
+dries = map (λ k. k .dry) kinds
 
 abbrev pub vapours : List ℤ
-vapours = map (λ k. k .vapour) tableA1
+vapours = map (λ k. k .vapour) kinds
 
 abbrev pub colds : List ℤ
-colds = map (λ k. k .cold) tableA1
+colds = map (λ k. k .cold) kinds
 
 abbrev pub rises : List ℤ
-rises = map (λ k. k .hot -ℤ k .cold) tableA1
+rises = map (λ k. k .hot -ℤ k .cold) kinds
+
+-- c at T, of a gas
+abbrev heatAt : ℤ → GasHeat → ℤ
+heatAt T₁ k = k .cold *ℤ pos 1000 +ℤ (k .hot -ℤ k .cold) *ℤ T₁
 
 module _ (g : Gas) where
   abbrev pub shares : List ℤ
@@ -120,11 +126,12 @@ module _ (g : Gas) where
   unfolding mixedHeat
   heat-is T₁ = sym (split tableA1 shares T₁)
     where
-      split : (l : List Kind) (zs : List ℤ) (t : ℤ) → weigh (map (λ k. k .cold *ℤ pos 1000 +ℤ (k .hot -ℤ k .cold) *ℤ t) l) zs ≡ weigh (map (λ k. k .cold) l) zs *ℤ pos 1000 +ℤ weigh (map (λ k. k .hot -ℤ k .cold) l) zs *ℤ t
+      split : (l : List GasHeat) (zs : List ℤ) (t : ℤ) →
+          weigh (map (heatAt t) l) zs ≡ weigh (map (λ k. k .cold) l) zs *ℤ pos 1000 +ℤ weigh (map (λ k. k .hot -ℤ k .cold) l) zs *ℤ t
       split [] zs t = ring (t ∷ []) (# 0) (# 0 ⊗ # 1000 ⊕ # 0 ⊗ v 0) tt
       split (k ∷ l) [] t = ring (t ∷ []) (# 0) (# 0 ⊗ # 1000 ⊕ # 0 ⊗ v 0) tt
       split (k ∷ l) (z ∷ zs) t =
-          ap (λ (x : ℤ). (k .cold *ℤ pos 1000 +ℤ (k .hot -ℤ k .cold) *ℤ t) *ℤ z +ℤ x) (split l zs t)
+          ap (λ (x : ℤ). heatAt t k *ℤ z +ℤ x) (split l zs t)
           ∙ ring (k .cold ∷ k .hot ∷ z ∷ t ∷ weigh (map (λ j. j .cold) l) zs ∷ weigh (map (λ j. j .hot -ℤ j .cold) l) zs ∷ [])
           ((v 0 ⊗ # 1000 ⊕ (v 1 ⊖ v 0) ⊗ v 3) ⊗ v 2 ⊕ (v 4 ⊗ # 1000 ⊕ v 5 ⊗ v 3))
           ((v 0 ⊗ v 2 ⊕ v 4) ⊗ # 1000 ⊕ ((v 1 ⊖ v 0) ⊗ v 2 ⊕ v 5) ⊗ v 3) tt
@@ -152,7 +159,9 @@ module _ (W : ℕ) where
   first-light [] zero t = tt
   first-light [] (suc i) t = tt
   first-light (w ∷ ws) zero t = tt
-  first-light (w ∷ ws) (suc i) t = both-in (light w) (all light (take i ws)) (both-left (light w) (all light ws) t) (first-light ws i (both-right (light w) (all light ws) t))
+  first-light (w ∷ ws) (suc i) t =
+      let rest = first-light ws i (both-right (light w) (all light ws) t) in
+      both-in (light w) (all light (take i ws)) (both-left (light w) (all light ws) t) rest
 
   weigh-total : (ws zs : List ℤ) → T (all light ws) → natAbs (weigh ws zs) ≤ W * total zs
   unfolding total
@@ -167,25 +176,35 @@ module _ (W : ℕ) where
       let e : total (gasRow g .numbers) ≡ most share = ap natAbs (total-is (gasRow g .numbers) (h .each) ∙ h .sum) in
       record { size = rw e at (weigh-total (take i ws) (gasRow g .numbers) (first-light ws i t)) }
 
--- ---- a column of the table
+-- ---- a column of the table, summed over the first gases
+abbrev pub so-far : (Kind → ℤ) → List Share → ℕ → ℤ
+so-far f l i = weigh (take i (map f kinds)) (shares (gas l))
 
 module _ (f : Kind → ℤ) (z : f noKind ≡ pos 0) (l : List Share) (i : ℕ) (h : i < 13) where
-  weight-at : getD (map f tableA1) i (pos 0) ≡ f (kindAt i)
-  weight-at = subst (λ (d : ℤ). getD (map f tableA1) i d ≡ f (kindAt i)) z (List·getD-map f tableA1 i noKind)
+  weight-at : getD (map f kinds) i (pos 0) ≡ f (kindAt i)
+  weight-at = subst (λ (d : ℤ). getD (map f kinds) i d ≡ f (kindAt i)) z (List·getD-map f kinds i noKind)
 
-  pub column-next : weigh (take (i + 1) (map f tableA1)) (gasRow (gas l) .numbers) ≡ weigh (take i (map f tableA1)) (gasRow (gas l) .numbers) +ℤ f (kindAt i) *ℤ getD l i none .0
-  column-next =
-      ap (λ (j : ℕ). weigh (take j (map f tableA1)) (gasRow (gas l) .numbers)) (add-one i)
-      ∙ weigh-next (map f tableA1) (gasRow (gas l) .numbers) i h h
-      ∙ ap₂ (λ (w s : ℤ). weigh (take i (map f tableA1)) (gasRow (gas l) .numbers) +ℤ w *ℤ s) weight-at (share-at l i h)
+  pub column-size : (W : ℕ) → T (all (light W) (map f kinds)) → natAbs (f (kindAt i)) ≤ W
+  column-size W t =
+      let here = entry (light W) (pos 0) (map f kinds) (le→leb 0 W (omega arith)) t i in
+      subst (λ (x : ℤ). natAbs x ≤ W) weight-at (leb→le _ _ here)
 
-  pub column-size : (W : ℕ) → T (all (light W) (map f tableA1)) → natAbs (f (kindAt i)) ≤ W
-  column-size W t = subst (λ (x : ℤ). natAbs x ≤ W) weight-at (leb→le _ _ (entry (light W) (pos 0) (map f tableA1) (le→leb 0 W (omega arith)) t i))
+  -- the sum so far, and with this gas
+  module _ {sum : ℤ} (e : sum ≡ so-far f l i) where
+    pub column-next : {next : ℤ} → next ≡ sum +ℤ f (kindAt i) *ℤ getD l i none .0 → next ≡ so-far f l (i + 1)
+    column-next d =
+        d
+        ∙ ap (λ (x : ℤ). x +ℤ f (kindAt i) *ℤ getD l i none .0) e
+        ∙ sym (ap₂ (λ (w s : ℤ). so-far f l i +ℤ w *ℤ s) weight-at (share-at l i h))
+        ∙ sym (weigh-next (map f kinds) (shares (gas l)) i h h)
+        ∙ ap (so-far f l) (sym (add-one i))
 
-  pub column-fits : (W : ℕ) → GasIn (gas l) → T (all (light W) (map f tableA1)) → T (ltb (W * (2 * most share)) (2 ^ hbits w64)) → Fits (weigh (take i (map f tableA1)) (gasRow (gas l) .numbers)) (f (kindAt i)) (getD l i none .0)
-  column-fits W g t u =
-      let s : natAbs (getD l i none .0) ≤ most share = subst (λ (x : ℤ). natAbs x ≤ most share) (share-at l i h) (sized (every-at (In share) (gasRow (gas l) .numbers) i (pos 0) (g .each) h) tt .size) in
-      let one = bound-mul (f (kindAt i)) (getD l i none .0) (column-size W t) s in
-      let all = bound-add (weigh (take i (map f tableA1)) (gasRow (gas l) .numbers)) (f (kindAt i) *ℤ getD l i none .0) (weigh-size W (map f tableA1) i g t .size) one in
-      let room : W * (2 * most share) < 2 ^ hbits w64 = ltb→lt _ _ u in
-      record { one = sfits-abs (omega arith); all = sfits-abs (omega arith) }
+    pub column-fits : (W : ℕ) → GasIn (gas l) → T (all (light W) (map f kinds)) → T (ltb (W * (2 * most share)) (2 ^ hbits w64)) →
+        Fits sum (f (kindAt i)) (getD l i none .0)
+    column-fits W g t u =
+        let share-in = every-at (In share) (shares (gas l)) i (pos 0) (g .each) h in
+        let s : natAbs (getD l i none .0) ≤ most share = subst (λ (x : ℤ). natAbs x ≤ most share) (share-at l i h) (sized share-in tt .size) in
+        let one = bound-mul (f (kindAt i)) (getD l i none .0) (column-size W t) s in
+        let all = bound-add (so-far f l i) (f (kindAt i) *ℤ getD l i none .0) (weigh-size W (map f kinds) i g t .size) one in
+        let room : W * (2 * most share) < 2 ^ hbits w64 = ltb→lt _ _ u in
+        rw e (record { one = sfits-abs (omega arith); all = sfits-abs (omega arith) })

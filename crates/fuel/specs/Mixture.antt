@@ -4,7 +4,7 @@ use lib.IntN.{ℤ, pos, _+ℤ_, _-ℤ_, _*ℤ_}
 use mir.Syntax.{w64}
 use mir.Val.{SFits}
 use Rattle.sheet.specs.Firing.{Gas}
-use Rattle.formulas.specs.declared.Kind.{Kind}
+use Rattle.fuel.specs.declared.mixture.Kind.{Kind}
 use Rattle.fuel.specs.declared.mixture.Warmth.{Warmth}
 use Rattle.fuel.specs.declared.mixture.Burning.{Burning as Burningˢ}
 use Rattle.formulas.specs.Formulas.{mixedHeat, Burning, ofGas}

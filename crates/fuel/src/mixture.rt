@@ -2,7 +2,6 @@
 ghost use Rattle.sheet.specs.Shown.{gas as gasOf};
 ghost use Rattle.lines.specs.Limits.{GasIn};
 ghost use Rattle.fuel.specs.Mixture.{WarmthFits, Warmer, Warmed, BurningFits, Brighter, Burns};
-use formulas::Kind;
 use quantity::gas::Share;
 
 // What the shares come to in specific heat: c at 0 °C and its rise to 100 °C, in 1e-7 kJ/(m³·°C).
@@ -13,6 +12,16 @@ pub struct Warmth {
 
 // What a unit of fuel asks and gives: theoretical air in 1e-6 m³, dry flue in 1e-9 m³, vapour in 1e-16/56 kg.
 pub struct Burning {
+    pub air: i64,
+    pub dry: i64,
+    pub vapour: i64,
+}
+
+// A gas of table A.1: c at 0 and at 100 °C in 0.001 kJ/(m³·°C); and for each share of it, in the units of `Burning`, the theoretical air, the
+// dry flue and the vapour.
+pub struct Kind {
+    pub cold: i64,
+    pub hot: i64,
     pub air: i64,
     pub dry: i64,
     pub vapour: i64,

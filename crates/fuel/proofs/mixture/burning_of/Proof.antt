@@ -1,31 +1,30 @@
 -- The loop's invariant: each column's sum is that over the first i gases. Assumes nothing.
-use mathlib.Core.Path.{_≡_, refl, sym, ap, _∙_}
-use mathlib.Core.List.{List}
-use Prim.Native.Nat.{ℕ, _≤_, _<_, _-_}
+use mathlib.Core.Path.{_≡_, refl, ap, _∙_}
+use Prim.Native.Nat.{_≤_, _<_, _-_}
 use native.Mathlib.Omega.{arith}
 use borrow.Author.Needs.{needs}
-use lib.IntN.{ℤ}
-use lib.ListN.{take}
-use Rattle.quantity.specs.declared.gas.Share.{Share}
 use Rattle.sheet.specs.Shown.{gas}
-use Rattle.lines.specs.Tests.{weigh}
-use Rattle.lines.specs.Rows.{gasRow}
 use Rattle.formulas.specs.Sizes.{butaneAir, butaneDry, butaneVapour}
-use Rattle.fuel.proofs.Shares.{airs, dries, vapours, column-next, column-fits, weigh-size, air-is, dry-is, vapour-is}
+use Rattle.fuel.proofs.Shares.{airs, dries, vapours, so-far, column-next, column-fits, weigh-size, air-is, dry-is, vapour-is}
 use Rattle.fuel.proofs.mixture.burning_of.Statement.{statement}
 use Rattle.fuel.proofs.mixture.burning_of.Tie as tie
 
-abbrev so-far : List ℤ → List Share → ℕ → ℤ
-so-far column shares i = weigh (take i column) (gasRow (gas shares) .numbers)
-
 abbrev Inv-loop : tie.InvT-loop
-Inv-loop shares kinds sum₀ i₀ sum i = (i ≤ 13) × ((sum .air ≡ so-far airs shares i) × ((sum .dry ≡ so-far dries shares i) × (sum .vapour ≡ so-far vapours shares i)))
+Inv-loop shares kinds sum₀ i₀ sum i =
+    (i ≤ 13)
+    × (sum .air ≡ so-far (λ k. k .air) shares i)
+    × (sum .dry ≡ so-far (λ k. k .dry) shares i)
+    × (sum .vapour ≡ so-far (λ k. k .vapour) shares i)
 
 abbrev μ-loop : tie.MeasureT-loop
 μ-loop shares kinds sum₀ i₀ sum i = 13 - i
 
+-- the loop, from where a gas and its share are read
+abbrev L : tie.After-brighter-arg Inv-loop μ-loop → tie.At-loop Inv-loop μ-loop
+L c = c .before .before .before
+
 loop-holds : tie.Need-loop-holds Inv-loop μ-loop
-loop-holds c = (omega arith, (refl, (refl, refl)))
+loop-holds c = (omega arith, refl, refl, refl)
 
 mul-kind : tie.Need-mul-kind Inv-loop μ-loop
 mul-kind c = omega arith
@@ -41,17 +40,14 @@ array-copy-out-brighter c = omega arith
 
 brighter-requires : tie.Need-brighter-requires Inv-loop μ-loop
 brighter-requires c κs =
-    let s = c .before .before .before .before in
-    let l = c .before .before .before .loop in
+    let l = L c .loop in
+    let s = L c .before in
+    let shares = s .args .t1 in
     let h : l .i < 13 = omega arith in
-    let sums = l .inv .1 in
-    let air = column-fits (λ k. k .air) refl (s .args .t1) (l .i) h butaneAir (s .pre) tt tt in
-    let dry = column-fits (λ k. k .dry) refl (s .args .t1) (l .i) h butaneDry (s .pre) tt tt in
-    let vapour = column-fits (λ k. k .vapour) refl (s .args .t1) (l .i) h butaneVapour (s .pre) tt tt in
     record {
-      air = rw (sums .0) air;
-      dry = rw (sums .1 .0) dry;
-      vapour = rw (sums .1 .1) vapour;
+      air = column-fits (λ k. k .air) refl shares (l .i) h (l .inv .1) butaneAir (s .pre) tt tt;
+      dry = column-fits (λ k. k .dry) refl shares (l .i) h (l .inv .2) butaneDry (s .pre) tt tt;
+      vapour = column-fits (λ k. k .vapour) refl shares (l .i) h (l .inv .3) butaneVapour (s .pre) tt tt;
     }
 
 add-i : tie.Need-add-i Inv-loop μ-loop
@@ -62,23 +58,25 @@ loop-less c = search needs
 
 loop-again : tie.Need-loop-again Inv-loop μ-loop
 loop-again c =
-    let s = c .before .before .before .before .before in
-    let l = c .before .before .before .before .loop in
+    let l = L (c .before) .loop in
+    let shares = L (c .before) .before .args .t1 in
     let h : l .i < 13 = omega arith in
-    let e = c .brighter .ensures in
-    let sums = l .inv .1 in
-    (omega arith, (rw (e .air, sums .0) (sym (column-next (λ k. k .air) refl (s .args .t1) (l .i) h)), (rw (e .dry, sums .1 .0) (sym (column-next (λ k. k .dry) refl (s .args .t1) (l .i) h)), rw (e .vapour, sums .1 .1) (sym (column-next (λ k. k .vapour) refl (s .args .t1) (l .i) h)))))
+    let e = c .brighter .ensures in (
+      omega arith,
+      column-next (λ k. k .air) refl shares (l .i) h (l .inv .1) (e .air),
+      column-next (λ k. k .dry) refl shares (l .i) h (l .inv .2) (e .dry),
+      column-next (λ k. k .vapour) refl shares (l .i) h (l .inv .3) (e .vapour),
+    )
 
 returns : tie.Need-returns Inv-loop μ-loop
 returns c =
     let s = c .before .before in
     let l = c .before .loop in
-    let sums = l .inv .1 in
-    let end : l .i ≡ 13 = omega arith in
     let shares = s .args .t1 in
-    let air = sums .0 ∙ ap (so-far airs shares) end in
-    let dry = sums .1 .0 ∙ ap (so-far dries shares) end in
-    let vapour = sums .1 .1 ∙ ap (so-far vapours shares) end in
+    let end : l .i ≡ 13 = omega arith in
+    let air = l .inv .1 ∙ ap (so-far (λ k. k .air) shares) end in
+    let dry = l .inv .2 ∙ ap (so-far (λ k. k .dry) shares) end in
+    let vapour = l .inv .3 ∙ ap (so-far (λ k. k .vapour) shares) end in
     rw (air, dry, vapour)
     (record {
       is = rw (air-is (gas shares), dry-is (gas shares), vapour-is (gas shares)) refl;
