@@ -6,12 +6,12 @@ use lib.IntN.{ℤ, pos, natAbs, _+ℤ_, _-ℤ_, _*ℤ_}
 use Rattle.lines.specs.Schema.{Field}
 use Rattle.lines.specs.Quantities.{ambient, heating, fuelTemperature, share, moisture, mass, temperature, capacity, flue, cubicMetres, excess, monoxide, minutes, area, surface, nearAir, gasTotal}
 use Rattle.formulas.specs.Rounding.{square}
-use Rattle.formulas.specs.Tables.{tableA1, tableA2}
+use Rattle.formulas.specs.Tables.{tableA1}
 use Rattle.formulas.specs.Formulas.{placed, fourth}
 
 -- ---- The rules: a quantity; the difference of two; an entry of a table's column
-abbrev pub most : Field → ℕ
-most x = max (natAbs (x .least)) (natAbs (x .greatest))
+abbrev pub greatest : Field → ℕ
+greatest x = max (natAbs (x .least)) (natAbs (x .greatest))
 
 abbrev pub apart : Field → Field → ℕ
 apart x y = max (natAbs (x .greatest -ℤ y .least)) (natAbs (x .least -ℤ y .greatest))
@@ -47,25 +47,13 @@ sectionsMost = 12
 abbrev pub cellsMost : ℕ
 cellsMost = sectionsMost * stagesMost
 
--- ---- Specific heat: a and b of table A.2; and c that the sheet gives, which is more than any line of the table
-abbrev pub startMost : ℕ
-startMost = column (λ l. l .a) tableA2
-
-abbrev pub slopeMost : ℕ
-slopeMost = column (λ l. l .b) tableA2
-
+-- ---- Specific heat: c that the sheet gives is more than any line of table A.2
 abbrev pub specificHeatMost : ℕ
-specificHeatMost = most capacity * 1000
+specificHeatMost = greatest capacity * 1000
 
 -- ---- m c (T − T₀) of any two temperatures: one, of all setters, of all parts
-abbrev pub massMost : ℕ
-massMost = most mass
-
-abbrev pub temperatureMost : ℕ
-temperatureMost = most temperature
-
 abbrev pub sensibleMost : ℕ
-sensibleMost = upTo (massMost * specificHeatMost * (2 * temperatureMost)) (10 ^ 6)
+sensibleMost = upTo (greatest mass * specificHeatMost * (2 * greatest temperature)) (10 ^ 6)
 
 abbrev pub settersHeatMost : ℕ
 settersHeatMost = settersMost * sensibleMost
@@ -75,7 +63,7 @@ partsHeatMost = partsMost * sensibleMost
 
 -- ---- Income: q1; c of a gas at 0 °C and its rise to 100 °C, and of the mixture, whose shares add to 100 %; q2
 abbrev pub q1Most : ℕ
-q1Most = most gasTotal * most heating * 100
+q1Most = greatest gasTotal * greatest heating * 100
 
 abbrev pub coldMost : ℕ
 coldMost = column (λ k. k .cold) tableA1
@@ -84,22 +72,22 @@ abbrev pub riseMost : ℕ
 riseMost = column (λ k. k .hot -ℤ k .cold) tableA1
 
 abbrev pub mixedColdMost : ℕ
-mixedColdMost = most share * coldMost
+mixedColdMost = greatest share * coldMost
 
 abbrev pub mixedRiseMost : ℕ
-mixedRiseMost = most share * riseMost
+mixedRiseMost = greatest share * riseMost
 
 abbrev pub q2Most : ℕ
-q2Most = upTo (most gasTotal * (mixedColdMost * 1000 + mixedRiseMost * most fuelTemperature) * apart fuelTemperature ambient) (10 ^ 9)
+q2Most = upTo (greatest gasTotal * (mixedColdMost * 1000 + mixedRiseMost * greatest fuelTemperature) * apart fuelTemperature ambient) (10 ^ 9)
 
 -- ---- Expenditure
 abbrev pub x2Most : ℕ
-x2Most = upTo (2 * massMost * (2490000 + 193 * apart flue ambient)) 10
+x2Most = upTo (2 * greatest mass * (2490000 + 193 * apart flue ambient)) 10
 
 abbrev pub x3Most : ℕ
-x3Most = massMost * 108800
+x3Most = greatest mass * 108800
 
--- ---- Flue: what a share of butane asks and gives, the most of all gases; and what a unit of fuel does
+-- ---- Flue: what a share of butane asks and gives, the greatest of all gases; and what a unit of fuel does
 abbrev pub butaneAir : ℕ
 butaneAir = 238 * 13
 
@@ -110,23 +98,23 @@ abbrev pub butaneVapour : ℕ
 butaneVapour = 5 * (45 * 10 ^ 12)
 
 abbrev pub airMost : ℕ
-airMost = most share * butaneAir
+airMost = greatest share * butaneAir
 
 abbrev pub dryMost : ℕ
-dryMost = most share * butaneDry
+dryMost = greatest share * butaneDry
 
 abbrev pub vapourMost : ℕ
-vapourMost = most share * butaneVapour
+vapourMost = greatest share * butaneVapour
 
 -- a stage's dry flue; its vapour, for a unit of fuel and in all
 abbrev pub dryFlueMost : ℕ
-dryFlueMost = upTo (most cubicMetres * (dryMost + (most excess - 210) * airMost)) (10 ^ 5)
+dryFlueMost = upTo (greatest cubicMetres * (dryMost + (greatest excess - 210) * airMost)) (10 ^ 5)
 
 abbrev pub vapourRateMost : ℕ
-vapourRateMost = upTo (1293 * most excess * airMost * most moisture * 56 + vapourMost) (56 * 10 ^ 7)
+vapourRateMost = upTo (1293 * greatest excess * airMost * greatest moisture * 56 + vapourMost) (56 * 10 ^ 7)
 
 abbrev pub vapourMassMost : ℕ
-vapourMassMost = upTo (vapourRateMost * most cubicMetres) (10 ^ 4)
+vapourMassMost = upTo (vapourRateMost * greatest cubicMetres) (10 ^ 4)
 
 -- c (flue − t) of a m³ of dry flue, and a stage's heats
 abbrev pub carriedMost : ℕ
@@ -142,7 +130,7 @@ abbrev pub flueHeatMost : ℕ
 flueHeatMost = dryHeatMost + vapourHeatMost
 
 abbrev pub monoxideHeatMost : ℕ
-monoxideHeatMost = upTo (dryFlueMost * most monoxide * 12750) (10 ^ 6)
+monoxideHeatMost = upTo (dryFlueMost * greatest monoxide * 12750) (10 ^ 6)
 
 abbrev pub x7Most : ℕ
 x7Most = stagesMost * flueHeatMost
@@ -167,27 +155,22 @@ abbrev pub fluxMost : ℕ
 fluxMost = convectionMost + radiationMost
 
 abbrev pub wallHeatMost : ℕ
-wallHeatMost = upTo (fluxMost * most area * most minutes * 6) (10 ^ 6)
+wallHeatMost = upTo (fluxMost * greatest area * greatest minutes * 6) (10 ^ 6)
 
 abbrev pub x9Most : ℕ
 x9Most = cellsMost * wallHeatMost
 
 -- ---- Useful: (33) per kg, at either limit of the ware's temperature
-abbrev pub boiledAt : ℕ → ℤ → ℕ
-boiledAt Δ T = natAbs ((pos 1000 -ℤ T) *ℤ pos 418 +ℤ pos (2260000 + Δ * 1930))
-
 abbrev pub boiledMost : ℕ → ℕ
-boiledMost Δ = max (boiledAt Δ (temperature .least)) (boiledAt Δ (temperature .greatest))
+boiledMost Δ =
+    let at : ℤ → ℕ = λ T. natAbs ((pos 1000 -ℤ T) *ℤ pos 418 +ℤ pos (2260000 + Δ * 1930)) in
+    max (at (temperature .least)) (at (temperature .greatest))
 
 abbrev pub waterHeatMost : ℕ
-waterHeatMost = upTo (massMost * boiledMost 25 + massMost * boiledMost 450) 10
+waterHeatMost = upTo (greatest mass * (boiledMost 25 + boiledMost 450)) 10
 
--- ---- EVERY HEAT OF A BALANCE: none is more than both sides together
-abbrev pub incomesMost : ℕ
-incomesMost = q1Most + q2Most + settersHeatMost + sensibleMost + partsHeatMost
-
-abbrev pub expensesMost : ℕ
-expensesMost = sensibleMost + x2Most + x3Most + settersHeatMost + x7Most + x8Most + x9Most + partsHeatMost
-
+-- ---- ANY HEAT OF A BALANCE: not above both sides together
 abbrev pub heatMost : ℕ
-heatMost = incomesMost + expensesMost
+heatMost =
+    q1Most + q2Most + settersHeatMost + sensibleMost + partsHeatMost
+    + (sensibleMost + x2Most + x3Most + settersHeatMost + x7Most + x8Most + x9Most + partsHeatMost)

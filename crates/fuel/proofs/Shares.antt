@@ -27,7 +27,7 @@ use Rattle.lines.specs.Limits.{In, GasIn}
 use Rattle.formulas.specs.Tables.{GasHeat, between, tableA1}
 use Rattle.formulas.specs.Formulas.{mixedHeat, theoreticalAir, dryOfGas, vapourOfGas, ofGas}
 use Rattle.formulas.specs.Figures.{Within}
-use Rattle.formulas.specs.Sizes.{most}
+use Rattle.formulas.specs.Sizes.{greatest}
 use Rattle.fuel.specs.declared.mixture.Kind.{Kind}
 use Rattle.fuel.specs.Kinds.{flow, kind, kinds}
 use Rattle.fuel.specs.Mixture.{Fits}
@@ -171,9 +171,9 @@ module _ (W : ℕ) where
       let a : natAbs w * natAbs z ≤ W * natAbs z = mul-le-mul (leb→le _ _ (both-left (light w) (all light ws) t)) (le-refl (natAbs z)) in
       omega (arith, abs-add (w *ℤ z) (weigh ws zs), abs-mul w z, weigh-total ws zs (both-right (light w) (all light ws) t))
 
-  pub weigh-size : {g : Gas} (ws : List ℤ) (i : ℕ) → GasIn g → T (all light ws) → Within (W * most share) (weigh (take i ws) (gasRow g .numbers))
+  pub weigh-size : {g : Gas} (ws : List ℤ) (i : ℕ) → GasIn g → T (all light ws) → Within (W * greatest share) (weigh (take i ws) (gasRow g .numbers))
   weigh-size {g} ws i h t =
-      let e : total (gasRow g .numbers) ≡ most share = ap natAbs (total-is (gasRow g .numbers) (h .each) ∙ h .sum) in
+      let e : total (gasRow g .numbers) ≡ greatest share = ap natAbs (total-is (gasRow g .numbers) (h .each) ∙ h .sum) in
       record { size = rw e at (weigh-total (take i ws) (gasRow g .numbers) (first-light ws i t)) }
 
 -- ---- a column of the table, summed over the first gases
@@ -199,12 +199,12 @@ module _ (f : Kind → ℤ) (z : f noKind ≡ pos 0) (l : List Share) (i : ℕ) 
         ∙ sym (weigh-next (map f kinds) (shares (gas l)) i h h)
         ∙ ap (so-far f l) (sym (add-one i))
 
-    pub column-fits : (W : ℕ) → GasIn (gas l) → T (all (light W) (map f kinds)) → T (ltb (W * (2 * most share)) (2 ^ hbits w64)) →
+    pub column-fits : (W : ℕ) → GasIn (gas l) → T (all (light W) (map f kinds)) → T (ltb (W * (2 * greatest share)) (2 ^ hbits w64)) →
         Fits sum (f (kindAt i)) (getD l i none .0)
     column-fits W g t u =
         let share-in = every-at (In share) (shares (gas l)) i (pos 0) (g .each) h in
-        let s : natAbs (getD l i none .0) ≤ most share = subst (λ (x : ℤ). natAbs x ≤ most share) (share-at l i h) (sized share-in tt .size) in
+        let s : natAbs (getD l i none .0) ≤ greatest share = subst (λ (x : ℤ). natAbs x ≤ greatest share) (share-at l i h) (sized share-in tt .size) in
         let one = bound-mul (f (kindAt i)) (getD l i none .0) (column-size W t) s in
         let all = bound-add (so-far f l i) (f (kindAt i) *ℤ getD l i none .0) (weigh-size W (map f kinds) i g t .size) one in
-        let room : W * (2 * most share) < 2 ^ hbits w64 = ltb→lt _ _ u in
+        let room : W * (2 * greatest share) < 2 ^ hbits w64 = ltb→lt _ _ u in
         rw e (record { one = sfits-abs (omega arith); all = sfits-abs (omega arith) })

@@ -6,13 +6,20 @@ use lib.Dec.{T, leb, leb→le}
 use lib.IntN.{ℤ, pos, natAbs}
 use Rattle.arith.proofs.Ring.{both-left, both-right}
 use Rattle.arith.proofs.Machine.{Known, raw, num, _⟨*⟩_, _⟨+⟩_}
+use Rattle.lines.specs.Quantities.{temperature}
 use Rattle.formulas.specs.declared.Line.{Line}
 use Rattle.formulas.specs.Tables.{tableA2, line, lineAt}
 use Rattle.formulas.specs.Formulas.{byTable}
 use Rattle.formulas.specs.Figures.{Within}
-use Rattle.formulas.specs.Sizes.{startMost, slopeMost, temperatureMost, specificHeatMost}
+use Rattle.formulas.specs.Sizes.{greatest, column, specificHeatMost}
 use Rattle.formulas.proofs.Sizes.{within, most, fit, entry}
 use Rattle.solids.specs.Steps.{StraightFits}
+
+abbrev startMost : ℕ
+startMost = column (λ l. l .a) tableA2
+
+abbrev slopeMost : ℕ
+slopeMost = column (λ l. l .b) tableA2
 
 modest : Line → Bool
 modest x = leb (natAbs (x .a)) startMost && leb (natAbs (x .b)) slopeMost
@@ -30,7 +37,7 @@ module _ (i : ℕ) where
   unfolding modest
   b-size = record { size = leb→le _ _ (both-right (leb (natAbs (lineAt i .a)) startMost) (leb (natAbs (lineAt i .b)) slopeMost) modest-at) }
 
-  module _ {T : ℤ} (h : Within temperatureMost T) where
+  module _ {T : ℤ} (h : Within (greatest temperature) T) where
     abbrev ks : List Known
     ks = within a-size ∷ within b-size ∷ within h ∷ []
 

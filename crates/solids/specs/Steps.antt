@@ -10,12 +10,12 @@ use Rattle.sheet.specs.declared.Setters.{Setters as Settersˢ}
 use Rattle.sheet.specs.declared.Parts.{Parts as Partsˢ}
 use Rattle.sheet.specs.Firing.{Stuff, Ware, Water, Setter, Part}
 use Rattle.sheet.specs.Shown.{setter, part}
-use Rattle.lines.specs.Quantities.{product, ambient, temperature}
+use Rattle.lines.specs.Quantities.{product, ambient, mass, temperature}
 use Rattle.lines.specs.Rules.{Every}
 use Rattle.lines.specs.Limits.{In, StuffIn, WareIn, WaterIn}
 use Rattle.formulas.specs.Tables.{lineOf, lineAt}
 use Rattle.formulas.specs.Figures.{Within}
-use Rattle.formulas.specs.Sizes.{massMost, temperatureMost}
+use Rattle.formulas.specs.Sizes.{greatest}
 
 -- ---- specific heat
 -- a line of table A.2 with the coefficients of the one that holds
@@ -30,14 +30,14 @@ pub record StraightFits (a b T : ℤ) : Type 0 where
 
 pub record Heated (x : Stuff) (T : ℤ) : Type 0 where
   pub stuff : StuffIn x
-  pub at : Within temperatureMost T
+  pub at : Within (greatest temperature) T
 
 -- ---- m c (T − T₀)
 pub record Warmed (m : ℤ) (x : Stuff) (T T₀ : ℤ) : Type 0 where
-  pub mass : Within massMost m
+  pub mass : Within (greatest mass) m
   pub stuff : StuffIn x
-  pub at : Within temperatureMost T
-  pub from : Within temperatureMost T₀
+  pub at : Within (greatest temperature) T
+  pub from : Within (greatest temperature) T₀
 
 -- ---- the lines of a block
 abbrev pub settersOf : Settersˢ → List Setter
@@ -49,12 +49,12 @@ partsOf x = map part (take (x .count .0) (x .lines))
 -- setters or parts within their limits, and the other temperature
 pub record Loads {A : Type 0} (In₁ : A → Type 0) (l : List A) (T : ℤ) : Type 0 where
   pub each : Every In₁ l
-  pub other : Within temperatureMost T
+  pub other : Within (greatest temperature) T
 
 -- ---- ware, water and clay
 pub record WareWarmed (x : Ware) (T : ℤ) : Type 0 where
   pub ware : WareIn x
-  pub ambient : Within temperatureMost T
+  pub ambient : Within (greatest temperature) T
 
 pub record WareFired (m : ℤ) (x : Ware) : Type 0 where
   pub product : In product m

@@ -2,11 +2,12 @@
 ghost use mathlib.Core.Path.{_≡_};
 ghost use Rattle.sheet.specs.Firing.{Firing};
 ghost use Rattle.sheet.specs.Shown.{ware as wareOf};
+ghost use Rattle.lines.specs.Quantities.{temperature};
 ghost use Rattle.lines.specs.Limits.{SetterIn, PartIn};
 ghost use Rattle.formulas.specs.Rounding.{paper};
 ghost use Rattle.formulas.specs.Formulas.{joule, q3, q5, q8, x1, x5, x10};
 ghost use Rattle.formulas.specs.Figures.{Within, Figure};
-ghost use Rattle.formulas.specs.Sizes.{temperatureMost, sensibleMost, settersHeatMost, partsHeatMost};
+ghost use Rattle.formulas.specs.Sizes.{greatest, sensibleMost, settersHeatMost, partsHeatMost};
 ghost use Rattle.solids.specs.Steps.{Loads, WareWarmed, WareFired, settersOf, partsOf};
 use crate::material::sensible;
 use formulas::block::held;
@@ -33,7 +34,7 @@ pub struct PartHeats {
 // Both heats of the setters, in one loop: each loop over the array costs a copy of it.
 pub fn setter_heats(setters: Setters, t: Degrees, highest: Degrees) -> SetterHeats
     requires { ⌜ Loads SetterIn (settersOf setters) (t .0) ⌝ }
-    requires { ⌜ Within temperatureMost (highest .0) ⌝ }
+    requires { ⌜ Within (greatest temperature) (highest .0) ⌝ }
     ensures { λ r. ⌜ ((f : Firing) → f .setters ≡ settersOf setters → f .ambient ≡ t .0 → Figure joule settersHeatMost (r .q3 .0) (q3 f paper)) ⌝ }
     ensures { λ r. ⌜ ((f : Firing) → f .setters ≡ settersOf setters → f .ware .highest ≡ highest .0 → Figure joule settersHeatMost (r .x5 .0) (x5 f paper)) ⌝ }
 {

@@ -13,7 +13,7 @@ use Rattle.lines.specs.Quantities.{cubicMetres}
 use Rattle.lines.specs.Limits.{StageIn}
 use Rattle.formulas.specs.Formulas.{sum}
 use Rattle.formulas.specs.Figures.{Figure}
-use Rattle.formulas.specs.Sizes.{most, stagesMost}
+use Rattle.formulas.specs.Sizes.{greatest, stagesMost}
 use Rattle.formulas.proofs.Units.{exactly, as-it-is}
 use Rattle.formulas.proofs.Sizes.{sized}
 use Rattle.formulas.proofs.Sums.{unmapped, blankStage, first, each, Running, none, more-fits, summed, blocked}
@@ -24,7 +24,7 @@ abbrev gas : Stage → ℤ
 gas x = x .gas
 
 abbrev Inv-loop : tie.InvT-loop
-Inv-loop lines count sum₀ i₀ sum i = (i ≤ count) × Running 1 (most cubicMetres) i (sum .0) (first gas stage lines i)
+Inv-loop lines count sum₀ i₀ sum i = (i ≤ count) × Running 1 (greatest cubicMetres) i (sum .0) (first gas stage lines i)
 
 abbrev μ-loop : tie.MeasureT-loop
 μ-loop lines count sum₀ i₀ sum i = count - i
@@ -41,7 +41,7 @@ S c = c .before .before .before
 
 -- the gas of a stage is within its limits
 one : (s : tie.Start Inv-loop μ-loop) (i : ℕ) → i < s .args .stages .count .0 → i < stagesMost →
-    let x = getD (lines s) i blankStage in Figure 1 (most cubicMetres) (x .gas .0) (gas (stage x))
+    let x = getD (lines s) i blankStage in Figure 1 (greatest cubicMetres) (x .gas .0) (gas (stage x))
 one s i h k =
     let p = each StageIn stage (lines s) (s .args .stages .count .0) i blankStage (s .pre) h (omega (arith, long s)) in
     record { is = exactly refl; size = sized (p .gas) tt }

@@ -8,7 +8,7 @@ use Rattle.arith.proofs.Machine.{Known, Mx, raw, num, _⟨+⟩_, _⟨-⟩_, _�
 use Rattle.formulas.specs.Formulas.{radiation}
 use Rattle.lines.specs.Quantities.{surface}
 use Rattle.formulas.specs.Figures.{Within}
-use Rattle.formulas.specs.Sizes.{most}
+use Rattle.formulas.specs.Sizes.{greatest}
 use Rattle.surface.specs.Cells.{FourthFits, HotIn}
 use Rattle.formulas.proofs.Units.{exactly}
 use Rattle.formulas.proofs.Sizes.{sized, within, limits, fit, rounded}
@@ -25,7 +25,7 @@ abbrev known : {T T₀ : ℤ} → HotIn T T₀ → List Known
 known p = limits (p .surface) ∷ limits (p .air) ∷ []
 
 -- either temperature: the air is not as hot as a surface can be
-fourth-fits : {T : ℤ} → Within (most surface) T → FourthFits T
+fourth-fits : {T : ℤ} → Within (greatest surface) T → FourthFits T
 fourth-fits h =
     let ks = within h ∷ [] in
     record {
