@@ -4,7 +4,7 @@ use Prim.Native.Nat.{ℕ, _+_, _*_, _/_, _^_, _-_, max}
 use mathlib.Core.List.{List, [], _∷_}
 use lib.IntN.{ℤ, pos, natAbs, _+ℤ_, _-ℤ_, _*ℤ_}
 use Rattle.lines.specs.Schema.{Field}
-use Rattle.lines.specs.Quantities.{ambient, heating, fuelTemperature, share, moisture, mass, temperature, capacity, flue, cubicMetres, excess, monoxide, minutes, area, surface, nearAir, gasTotal}
+use Rattle.lines.specs.Quantities.{ambient, heating, fuelTemperature, share, moisture, mass, temperature, capacity, flue, cubicMetres, excess, monoxide, minutes, area, surface, nearAir, gasTotal, stagesMost, settersMost, partsMost, sectionsMost}
 use Rattle.formulas.specs.Rounding.{square}
 use Rattle.formulas.specs.Tables.{tableA1}
 use Rattle.formulas.specs.Formulas.{placed, fourth}
@@ -31,19 +31,7 @@ mean n x = (x + n / x) / 2
 abbrev pub rootUpTo : ℕ → ℕ
 rootUpTo n = mean n (mean n (mean n (2 * 10 ^ 9)))
 
--- ---- How many lines a block has at most, and how many readings have room by section and stage
-abbrev pub stagesMost : ℕ
-stagesMost = 12
-
-abbrev pub settersMost : ℕ
-settersMost = 32
-
-abbrev pub partsMost : ℕ
-partsMost = 32
-
-abbrev pub sectionsMost : ℕ
-sectionsMost = 12
-
+-- ---- How many readings have room, by section and stage
 abbrev pub cellsMost : ℕ
 cellsMost = sectionsMost * stagesMost
 

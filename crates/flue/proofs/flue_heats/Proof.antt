@@ -12,7 +12,8 @@ use Rattle.sheet.specs.Shown.{stage}
 use Rattle.lines.specs.Limits.{StageIn}
 use Rattle.formulas.specs.Rounding.{paper}
 use Rattle.formulas.specs.Formulas.{joule, sum, flueHeat, monoxideHeat, x7, x8}
-use Rattle.formulas.specs.Sizes.{stagesMost, flueHeatMost, monoxideHeatMost}
+use Rattle.lines.specs.Quantities.{stagesMost}
+use Rattle.formulas.specs.Sizes.{flueHeatMost, monoxideHeatMost}
 use Rattle.fuel.specs.Mixture.{burning as burningOf}
 use Rattle.formulas.proofs.Sums.{unmapped, blankStage, first, each, Running, none, more-fits, summed, blocked}
 use Rattle.flue.proofs.flue_heats.Statement.{statement}

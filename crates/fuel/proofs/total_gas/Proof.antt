@@ -9,11 +9,11 @@ use lib.ListN.{length, getD}
 use Rattle.sheet.specs.declared.Stage.{Stage as Stageˢ}
 use Rattle.sheet.specs.Firing.{Stage}
 use Rattle.sheet.specs.Shown.{stage}
-use Rattle.lines.specs.Quantities.{cubicMetres}
+use Rattle.lines.specs.Quantities.{cubicMetres, stagesMost}
 use Rattle.lines.specs.Limits.{StageIn}
 use Rattle.formulas.specs.Formulas.{sum}
 use Rattle.formulas.specs.Figures.{Figure}
-use Rattle.formulas.specs.Sizes.{greatest, stagesMost}
+use Rattle.formulas.specs.Sizes.{greatest}
 use Rattle.formulas.proofs.Units.{exactly, as-it-is}
 use Rattle.formulas.proofs.Sizes.{sized}
 use Rattle.formulas.proofs.Sums.{unmapped, blankStage, first, each, Running, none, more-fits, summed, blocked}

@@ -12,7 +12,8 @@ use Rattle.sheet.specs.Shown.{part}
 use Rattle.lines.specs.Limits.{PartIn}
 use Rattle.formulas.specs.Rounding.{paper}
 use Rattle.formulas.specs.Formulas.{joule, sum, sensible, q8, x10}
-use Rattle.formulas.specs.Sizes.{partsMost, sensibleMost}
+use Rattle.lines.specs.Quantities.{partsMost}
+use Rattle.formulas.specs.Sizes.{sensibleMost}
 use Rattle.formulas.proofs.Sizes.{sized}
 use Rattle.formulas.proofs.Sums.{unmapped, first, each, Running, none, more-fits, summed, blocked}
 use Rattle.solids.proofs.Blank.{blankPart}

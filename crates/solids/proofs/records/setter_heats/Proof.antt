@@ -12,7 +12,8 @@ use Rattle.sheet.specs.Shown.{setter}
 use Rattle.lines.specs.Limits.{SetterIn}
 use Rattle.formulas.specs.Rounding.{paper}
 use Rattle.formulas.specs.Formulas.{joule, sum, sensible, q3, x5}
-use Rattle.formulas.specs.Sizes.{settersMost, sensibleMost}
+use Rattle.lines.specs.Quantities.{settersMost}
+use Rattle.formulas.specs.Sizes.{sensibleMost}
 use Rattle.formulas.proofs.Sizes.{sized}
 use Rattle.formulas.proofs.Sums.{unmapped, first, each, Running, none, more-fits, summed, blocked}
 use Rattle.solids.proofs.Blank.{blankSetter}
