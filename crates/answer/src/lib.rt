@@ -2,8 +2,11 @@
 ghost use mathlib.Core.Path.{_≡_};
 ghost use Prim.Native.Nat.{_<_, _≤_, _^_};
 ghost use lib.ListN.{length};
+ghost use mir.Syntax.{w64};
+ghost use mir.Val.{SFits};
 ghost use Rattle.pen.specs.Writing.{Written};
 ghost use Rattle.sheet.specs.Refusals.{number};
+ghost use Rattle.lines.specs.Rules.{Every};
 ghost use Rattle.formulas.specs.Items.{shuttle};
 ghost use Rattle.formulas.specs.Report.{keys, linesText};
 ghost use Rattle.report.specs.Lengths.{reportMost};
@@ -32,10 +35,11 @@ pub fn refused(why: Refusal, line: usize) -> Answer
 }
 
 // The report at the front of the room, if it fits. Its figures are known, and that it has room, before the first byte is written.
-pub fn reported(figures: [i64; LINES], room: &mut [u8]) -> Answer
-    ensures { λ r. ⌜ r ≡ fitted (linesText (keys shuttle) figures) (length (now (room .entry))) ⌝ }
-    ensures { λ _. ⌜ now (room .exit) ≡ placed (linesText (keys shuttle) figures) (now (room .entry)) ⌝ }
-    ensures { λ _. ⌜ length (linesText (keys shuttle) figures) ≤ reportMost ⌝ }
+pub fn reported(figures: &[i64; LINES], room: &mut [u8]) -> Answer
+    requires { ⌜ Every (SFits w64) (now figures) ⌝ }
+    ensures { λ r. ⌜ r ≡ fitted (linesText (keys shuttle) (now (figures .entry))) (length (now (room .entry))) ⌝ }
+    ensures { λ _. ⌜ now (room .exit) ≡ placed (linesText (keys shuttle) (now (figures .entry))) (now (room .entry)) ⌝ }
+    ensures { λ _. ⌜ length (linesText (keys shuttle) (now (figures .entry))) ≤ reportMost ⌝ }
 {
     if report::fits(figures, room.len()) {
         let length = report::write(room, figures);

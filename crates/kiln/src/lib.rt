@@ -22,7 +22,8 @@ fn answered(sheet: &[u8], room: &mut [u8]) -> Answer
         let firing = l.sheet;
         let head = firing.head;
         let heats = heat::balance(firing);
-        return reported(report::figures(head.firing, head.product, heats), room);
+        let figures = report::figures(head.firing, head.product, heats);
+        return reported(&figures, room);
     }
     let why = entries::coded::refusal_of(p.kind, p.field);
     refused(why, p.line)

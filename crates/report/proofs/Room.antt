@@ -18,7 +18,7 @@ use Rattle.formulas.specs.Report.{lines, keys, heatKeys, linesText}
 use Rattle.report.specs.Lengths.{keyMost, lineMost, reportMost, heatsMost}
 
 -- what an array of numbers tells of each of them
-each-fits : (xs : List ℤ) (us : List Val) → shadow (each ℤ (SInt w64 .own) xs us) → Every (SFits w64) xs
+pub each-fits : (xs : List ℤ) (us : List Val) → shadow (each ℤ (SInt w64 .own) xs us) → Every (SFits w64) xs
 each-fits [] us p = tt
 each-fits (x ∷ xs) [] p = absurd p
 each-fits (x ∷ xs) (u ∷ us) p = (record { sfits = p .0 .1 }, each-fits xs us (p .1))
@@ -38,9 +38,9 @@ unfolding heatKeys heats
 heat-keys-short = search needs
 
 -- THE GREATEST REPORT, and its heats
-pub in-room : (zs : List ℤ) (us : List Val) → shadow (each ℤ (SInt w64 .own) zs us) → length (linesText (keys shuttle) zs) ≤ reportMost
+pub in-room : (zs : List ℤ) → Every (SFits w64) zs → length (linesText (keys shuttle) zs) ≤ reportMost
 unfolding keys lines heats
-in-room zs us p = at-most (keys shuttle) zs keys-short (each-fits zs us p)
+in-room zs f = at-most (keys shuttle) zs keys-short f
 
 pub heats-in-room : (zs : List ℤ) (us : List Val) → shadow (each ℤ (SInt w64 .own) zs us) → length (linesText (heatKeys shuttle) zs) ≤ heatsMost
 unfolding heatKeys heats

@@ -4,8 +4,11 @@ ghost use Prim.Native.Nat.{_+_, _≤_, _<_};
 ghost use mathlib.Core.List.{[]};
 ghost use lib.Dec.{leb};
 ghost use lib.ListN.{length, getD, drop};
+ghost use mir.Syntax.{w64};
+ghost use mir.Val.{SFits};
 ghost use Rattle.text.specs.Decimal.{line};
 ghost use Rattle.pen.specs.Writing.{Written};
+ghost use Rattle.lines.specs.Rules.{Every};
 ghost use Rattle.formulas.specs.Items.{shuttle};
 ghost use Rattle.formulas.specs.Report.{keys, heatKeys, lineCount, linesText};
 ghost use Rattle.report.specs.Lengths.{lineMost, reportMost, heatsMost};
@@ -71,14 +74,15 @@ fn length(figures: [i64; LINES]) -> usize
 }
 
 // Whether the report has room, which need not be measured where any report has.
-pub fn fits(figures: [i64; LINES], room: usize) -> bool
-    ensures { λ r. ⌜ r ≡ leb (length (linesText (keys shuttle) figures)) room ⌝ }
-    ensures { λ _. ⌜ length (linesText (keys shuttle) figures) ≤ reportMost ⌝ }
+pub fn fits(figures: &[i64; LINES], room: usize) -> bool
+    requires { ⌜ Every (SFits w64) (now figures) ⌝ }
+    ensures { λ r. ⌜ r ≡ leb (length (linesText (keys shuttle) (now (figures .entry)))) room ⌝ }
+    ensures { λ _. ⌜ length (linesText (keys shuttle) (now (figures .entry))) ≤ reportMost ⌝ }
 {
     if MOST <= room {
         return true;
     }
-    length(figures) <= room
+    length(*figures) <= room
 }
 
 // Puts a line for each figure at the front, from the line of that number on, and answers how long they are.
@@ -102,11 +106,11 @@ fn write_from(out: &mut [u8], first: usize, figures: &[i64]) -> usize
 }
 
 // Puts the report at the front, and answers how long it is.
-pub fn write(out: &mut [u8], figures: [i64; LINES]) -> usize
-    requires { ⌜ length (linesText (keys shuttle) figures) ≤ length (now out) ⌝ }
-    ensures { λ r. ⌜ Written 0 (linesText (keys shuttle) figures) (now (out .entry)) (now (out .exit)) r ⌝ }
+pub fn write(out: &mut [u8], figures: &[i64; LINES]) -> usize
+    requires { ⌜ length (linesText (keys shuttle) (now figures)) ≤ length (now out) ⌝ }
+    ensures { λ r. ⌜ Written 0 (linesText (keys shuttle) (now (figures .entry))) (now (out .entry)) (now (out .exit)) r ⌝ }
 {
-    write_from(out, 0, &figures)
+    write_from(out, 0, figures)
 }
 
 // Puts the heats in joules at the front, under their keys in the report, and answers how long their lines are.

@@ -16,7 +16,7 @@ write-requires c κs = leb-true _ _ (sym (c .before .before .fits2 .ensures .0) 
 returns : tie.Need-returns
 returns c =
     let s = c .before .before .before .before .before .before .before in
-    let text = linesText (keys shuttle) (s .args .figures) in
+    let text = linesText (keys shuttle) (s .args .figures .now) in
     let n = c .before .before .before .before .before .fits2 in
     let w = c .before .before .write .ensures in
     let most = leb-true (length text) (length (s .args .room .now)) (sym (n .ensures .0) ∙ c .before .before .before .before .if1 .taken) in
@@ -25,7 +25,7 @@ returns c =
 returns-2 : tie.Need-returns-2
 returns-2 c =
     let s = c .before .before .before .before in
-    let text = linesText (keys shuttle) (s .args .figures) in
+    let text = linesText (keys shuttle) (s .args .figures .now) in
     let n = c .before .before .fits2 in
     let less = leb-false (length text) (length (s .args .room .now)) (sym (n .ensures .0) ∙ c .before .if1 .left) in
     (c .refused .ensures ∙ too-little text (length (s .args .room .now)) less, (untouched text (s .args .room .now) less, n .ensures .1))

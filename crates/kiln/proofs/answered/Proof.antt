@@ -17,6 +17,7 @@ use Rattle.formulas.specs.Report.{keys, linesText, report}
 use Rattle.heat.specs.Balance.{Kept}
 use Rattle.heat.proofs.Kept.{field}
 use Rattle.report.specs.Figures.{Found}
+use Rattle.report.proofs.Room.{each-fits}
 use Rattle.entries.specs.Place.{reason}
 use Rattle.entries.proofs.Places.{is-good, is-bad}
 use Rattle.reader.proofs.Answering.{Firm, firm-judged, firm-limits, refused-judged}
@@ -56,7 +57,9 @@ figures-requires : tie.Need-figures-requires
 figures-requires c κs = (firingOf (firing (c .before) .sheet), found c)
 
 reported-requires : tie.Need-reported-requires
-reported-requires c κs = search needs
+reported-requires c κs =
+    let f = c .before .before .figures in
+    each-fits (f .result) (f .ok .0) (f .ok .1 .1)
 
 same-length : tie.Need-same-length
 same-length c = search needs
@@ -65,7 +68,7 @@ returns : tie.Need-returns
 unfolding report
 returns c =
     let w = c .before .before .reported .ensures in
-    let d = c .before .before .before .before in
+    let d = c .before .before .before .before .before in
     let s = d .before .before .before .before .before .before .before .before .before .before in
     let a = firing (d .before .before) in
     let text : linesText (keys shuttle) (d .figures .result) ≡ report (firingOf (a .sheet)) = ap (linesText (keys shuttle)) (d .figures .ensures (firingOf (a .sheet)) (found (d .before))) in (

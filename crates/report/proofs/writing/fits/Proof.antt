@@ -15,12 +15,12 @@ use Rattle.report.proofs.writing.fits.Tie as tie
 returns : tie.Need-returns
 returns c =
     let a = c .before .args in
-    let most = in-room (a .figures) (c .before .good .0 .0) (c .before .good .0 .1 .1) in
-    (sym (le-leb (length (linesText (keys shuttle) (a .figures))) (a .room) (omega (arith, most))), most)
+    let most = in-room (a .figures .now) (c .before .pre) in
+    (sym (le-leb (length (linesText (keys shuttle) (a .figures .now))) (a .room) (omega (arith, most))), most)
 
 returns-2 : tie.Need-returns-2
 returns-2 c =
-    let a = c .before .before .args in
+    let a = c .before .before .before .args in
     (ap (λ (n : ℕ). leb n (a .room)) (c .length .ensures .0), omega (arith, c .length .ensures .0, c .length .ensures .1))
 
 pub fits-spec : {M : Type 1} → statement M
