@@ -31,7 +31,9 @@ cut i = take (start (i + 1) - start i) (drop (start i) letters)
 -- what is asked of the table at i
 right : ℕ → Bool
 unfolding keys lines heats
-right i = leb (start i) (start (i + 1)) && (leb (start (i + 1)) (length letters) && (leb (start (i + 1) - start i) keyMost && sameKey (cut i) (getD (keys shuttle) i [])))
+right i =
+    leb (start i) (start (i + 1))
+    && (leb (start (i + 1)) (length letters) && (leb (start (i + 1) - start i) keyMost && sameKey (cut i) (getD (keys shuttle) i [])))
 
 each : ℕ → Bool
 each zero = true
@@ -44,13 +46,18 @@ all-right = tt
 each-at : (n : ℕ) → T (each n) → (i : ℕ) → i < n → T (right i)
 unfolding each
 each-at zero h i l = absurd (omega arith)
-each-at (suc n) h i l = ⊎-elim (λ (e : i ≡ n). rw e (both-left (right n) (each n) h)) (λ (k : i < n). each-at n (both-right (right n) (each n) h) i k) (eq-or-lt-of-le {n = i} {m = n} (omega arith))
+each-at (suc n) h i l =
+    ⊎-elim
+    (λ (e : i ≡ n). rw e (both-left (right n) (each n) h))
+    (λ (k : i < n). each-at n (both-right (right n) (each n) h) i k)
+    (eq-or-lt-of-le {n = i} {m = n} (omega arith))
 
 same-is : (a b : List ℕ) → T (sameKey a b) → a ≡ b
 same-is [] [] h = refl
 same-is [] (y ∷ b) h = absurd h
 same-is (x ∷ a) [] h = absurd h
-same-is (x ∷ a) (y ∷ b) h = ap₂ (λ (z : ℕ) (l : List ℕ). z ∷ l) (eqb→eq x y (both-left (eqb x y) (sameKey a b) h)) (same-is a b (both-right (eqb x y) (sameKey a b) h))
+same-is (x ∷ a) (y ∷ b) h =
+    ap₂ (λ (z : ℕ) (l : List ℕ). z ∷ l) (eqb→eq x y (both-left (eqb x y) (sameKey a b) h)) (same-is a b (both-right (eqb x y) (sameKey a b) h))
 
 pub record Key (i : ℕ) : Type 0 where
   pub order : start i ≤ start (i + 1)

@@ -38,10 +38,12 @@ keys-behind [] ls (z ∷ zs) h = absurd (omega arith)
 keys-behind (k ∷ ks) ls (z ∷ zs) h = ap (λ (t : List ℕ). line k z ++ t) (keys-behind ks ls zs (omega arith))
 
 module _ (ks : List (List ℕ)) (zs : List ℤ) where
-  pub one-more : (i : ℕ) (z : ℤ) → i < length ks → i < length zs → linesText ks (take (i + 1) zs) ≡ linesText ks (take i zs) ++ line (getD ks i []) (getD zs i z)
+  pub one-more : (i : ℕ) (z : ℤ) → i < length ks → i < length zs →
+      linesText ks (take (i + 1) zs) ≡ linesText ks (take i zs) ++ line (getD ks i []) (getD zs i z)
   one-more i z h g = rw add-one (more i ks zs z h g)
 
-  pub longer : (i : ℕ) (z : ℤ) → i < length ks → i < length zs → length (linesText ks (take (i + 1) zs)) ≡ length (linesText ks (take i zs)) + length (line (getD ks i []) (getD zs i z))
+  pub longer : (i : ℕ) (z : ℤ) → i < length ks → i < length zs →
+      length (linesText ks (take (i + 1) zs)) ≡ length (linesText ks (take i zs)) + length (line (getD ks i []) (getD zs i z))
   longer i z h g = ap length (one-more i z h g) ∙ length-append (linesText ks (take i zs)) (line (getD ks i []) (getD zs i z))
 
   pub not-longer : (i : ℕ) → length (linesText ks (take i zs)) ≤ length (linesText ks zs)

@@ -45,7 +45,10 @@ unfolding q1
 fuel-some {f} {n = n} h p =
     let e = only (ltZ-yes tt) (p .is) (units {n = totalGas (f .stages) *ℤ f .fuel .heating *ℤ pos 100}) in
     let gas = rw (sum-of (λ s. s .gas) (f .stages)) at (h .total .low) in
-    rw e (under (totalGas (f .stages) ∷ f .fuel .heating ∷ []) 0 (prd (leq 100 (# 100) (v 0)) (leq 1 (# 3000) (v 1)) ∷ leq 300000 (# 100) (v 0) ∷ leq 10000 (# 3000) (v 1) ∷ []) (# 0) (v 0 ⊗ v 1 ⊗ # 100) tt (gas, h .heating .low) gas (h .heating .low))
+    rw e
+    (under (totalGas (f .stages) ∷ f .fuel .heating ∷ []) 0
+    (prd (leq 100 (# 100) (v 0)) (leq 1 (# 3000) (v 1)) ∷ leq 300000 (# 100) (v 0) ∷ leq 10000 (# 3000) (v 1) ∷ [])
+    (# 0) (v 0 ⊗ v 1 ⊗ # 100) tt (gas, h .heating .low) gas (h .heating .low))
 
 product-some : {f : Firing} → Limits f → pos 0 <ℤ f .product
 product-some {f} h = under (f .product ∷ []) 0 (leq 1 (# 1000) (v 0) ∷ []) (# 0) (v 0) tt (h .product .low)

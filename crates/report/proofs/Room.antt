@@ -27,7 +27,8 @@ at-most : (ks : List (List ℕ)) (zs : List ℤ) → Every (λ k. length k ≤ k
 unfolding linesText
 at-most [] zs p f = omega arith
 at-most (k ∷ ks) [] p f = omega arith
-at-most (k ∷ ks) (z ∷ zs) p f = omega (arith, length-append (line k z) (linesText ks zs), length-line k z, i64-width z (f .0), at-most ks zs (p .1) (f .1), p .0)
+at-most (k ∷ ks) (z ∷ zs) p f =
+    omega (arith, length-append (line k z) (linesText ks zs), length-line k z, i64-width z (f .0), at-most ks zs (p .1) (f .1), p .0)
 
 keys-short : Every (λ k. length k ≤ keyMost) (keys shuttle)
 unfolding keys lines heats

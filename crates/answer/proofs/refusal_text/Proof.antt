@@ -1,11 +1,11 @@
 -- Five pieces, one behind the other. Assumes nothing.
 use borrow.Author.Needs.{needs}
 use Prim.Native.Nat.{ℕ, _+_, _^_, _≤_, _<_}
-use mathlib.Core.Path.{_≡_, subst}
+use mathlib.Core.Path.{_≡_, ap, subst}
 use mathlib.Core.List.{List, _++_, append-assoc}
 use native.Mathlib.Omega.{arith}
 use lib.IntN.{pos}
-use lib.ListN.{length}
+use lib.ListN.{length, length-append}
 use mir.Syntax.{w64}
 use mir.Val.{toZ}
 use mir.ValLaws.{toZ-pos}
@@ -32,6 +32,9 @@ grouped a b c d e = simp append-assoc
 pieces : (n l : ℕ) → n < 2 ^ 32 → l < 2 ^ 32 → (((bytes "refused=" ++ decimal (toZ w64 n)) ++ bytes ",") ++ decimal (toZ w64 l)) ++ bytes "\n" ≡ refusedText n l
 pieces n l h k = rw (same n h, same l k) (grouped (bytes "refused=") (decimal (pos n)) (bytes ",") (decimal (pos l)) (bytes "\n"))
 
+long : (a b : List ℕ) → length ((((bytes "refused=" ++ a) ++ bytes ",") ++ b) ++ bytes "\n") ≡ length a + length b + 10
+long a b = simp length-append (omega arith)
+
 bytes-at-requires : tie.Need-bytes-at-requires
 bytes-at-requires c κs = search needs
 
@@ -48,14 +51,30 @@ bytes-at-requires-2 : tie.Need-bytes-at-requires-2
 bytes-at-requires-2 c κs =
     let n = c .before .before .before .before in
     let a = n .before .before .before .before in
-    omega (arith, both (a .before .before .before .before), a .bytes-at .ensures .ends, a .bytes-at .kept .0, n .number-at .ensures .ends, n .number-at .kept .0)
+    omega (
+      arith,
+      both (a .before .before .before .before),
+      a .bytes-at .ensures .ends,
+      a .bytes-at .kept .0,
+      n .number-at .ensures .ends,
+      n .number-at .kept .0,
+    )
 
 number-at-requires-2 : tie.Need-number-at-requires-2
 number-at-requires-2 c κs =
     let m = c .before .before .before in
     let n = m .before .before .before .before .before in
     let a = n .before .before .before .before in
-    omega (arith, both (a .before .before .before .before), a .bytes-at .ensures .ends, a .bytes-at .kept .0, n .number-at .ensures .ends, n .number-at .kept .0, m .bytes-at2 .ensures .ends, m .bytes-at2 .kept .0)
+    omega (
+      arith,
+      both (a .before .before .before .before),
+      a .bytes-at .ensures .ends,
+      a .bytes-at .kept .0,
+      n .number-at .ensures .ends,
+      n .number-at .kept .0,
+      m .bytes-at2 .ensures .ends,
+      m .bytes-at2 .kept .0,
+    )
 
 bytes-at-requires-3 : tie.Need-bytes-at-requires-3
 bytes-at-requires-3 c κs =
@@ -63,7 +82,18 @@ bytes-at-requires-3 c κs =
     let m = l .before .before .before .before in
     let n = m .before .before .before .before .before in
     let a = n .before .before .before .before in
-    omega (arith, both (a .before .before .before .before), a .bytes-at .ensures .ends, a .bytes-at .kept .0, n .number-at .ensures .ends, n .number-at .kept .0, m .bytes-at2 .ensures .ends, m .bytes-at2 .kept .0, l .number-at2 .ensures .ends, l .number-at2 .kept .0)
+    omega (
+      arith,
+      both (a .before .before .before .before),
+      a .bytes-at .ensures .ends,
+      a .bytes-at .kept .0,
+      n .number-at .ensures .ends,
+      n .number-at .kept .0,
+      m .bytes-at2 .ensures .ends,
+      m .bytes-at2 .kept .0,
+      l .number-at2 .ensures .ends,
+      l .number-at2 .kept .0,
+    )
 
 returns : tie.Need-returns
 returns c =
@@ -73,10 +103,11 @@ returns c =
     let n = m .before .before .before .before .before in
     let a = n .before .before .before .before in
     let s = a .before .before .before .before in
-    let w = next (next (next (next (a .bytes-at .ensures) (n .number-at .ensures)) (m .bytes-at2 .ensures)) (l .number-at2 .ensures)) (e .bytes-at3 .ensures) in (
-      subst (λ (t : List ℕ). Written 0 t (s .args .out .now) (e .bytes-at3 .last .0) (e .bytes-at3 .result)) (pieces (s .args .refusal) (s .args .line) (s .fits .refusal .fits) (s .fits .line .fits)) w,
-      omega (arith, both s, a .bytes-at .ensures .ends, n .number-at .ensures .ends, m .bytes-at2 .ensures .ends, l .number-at2 .ensures .ends, e .bytes-at3 .ensures .ends),
-    )
+    let three = next (next (a .bytes-at .ensures) (n .number-at .ensures)) (m .bytes-at2 .ensures) in
+    let five = next (next three (l .number-at2 .ensures)) (e .bytes-at3 .ensures) in
+    let text = pieces (s .args .refusal) (s .args .line) (s .fits .refusal .fits) (s .fits .line .fits) in
+    let whole = subst (λ (t : List ℕ). Written 0 t (s .args .out .now) (e .bytes-at3 .last .0) (e .bytes-at3 .result)) text five in
+    (whole, omega (arith, both s, whole .ends, ap length text, long (decimal (toZ w64 (s .args .refusal))) (decimal (toZ w64 (s .args .line)))))
 
 pub refusal-text-spec : {M : Type 1} → statement M
 refusal-text-spec =

@@ -56,7 +56,8 @@ returns-2 c =
     let s = e .before .before .before .before in
     let r = e .before .read in
     let w = c .refusal-text in
-    let text = ap (λ (a : Answer). refusedText (a .refusal) (a .line)) (c .before .before .refused .ensures) ∙ refusal-told (sheet (e .before)) (r .result) (r .ensures) (e .if1 .left) in
+    let numbers = ap (λ (a : Answer). refusedText (a .refusal) (a .line)) (c .before .before .refused .ensures) in
+    let text = numbers ∙ refusal-told (sheet (e .before)) (r .result) (r .ensures) (e .if1 .left) in
     (subst (λ (x : List ℕ). Written 0 x (s .args .out .now) (w .last .0) (w .result)) text (w .ensures .0), omega (arith, w .ensures .1, w .kept .0))
 
 pub print-spec : {M : Type 1} → statement M

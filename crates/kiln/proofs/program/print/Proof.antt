@@ -21,7 +21,8 @@ returns c =
     let r = c .before .before .answered in
     let s = c .before .before .before .before .before .before in
     let size : reportMost ≤ length (s .args .out .now) = omega arith in
-    let told = report-told (take (s .args .n) (s .args .room .now)) (s .args .out .now) (r .last .1 .0) (r .result) (r .ensures .1 .1) size (r .ensures .0) (r .ensures .1 .0) (omega arith) in
+    let sheet = take (s .args .n) (s .args .room .now) in
+    let told = report-told sheet (s .args .out .now) (r .last .1 .0) (r .result) (r .ensures .1 .1) size (r .ensures .0) (r .ensures .1 .0) (omega arith) in
     (told .0, omega (arith, told .1, size, r .kept .1 .0))
 
 refusal-text-requires : tie.Need-refusal-text-requires
@@ -32,8 +33,12 @@ returns-2 c =
     let r = c .before .before .before .before .answered in
     let s = c .before .before .before .before .before .before .before .before in
     let size : reportMost ≤ length (s .args .out .now) = omega arith in
-    let told = refusal-told (take (s .args .n) (s .args .room .now)) (s .args .out .now) (r .last .1 .0) (r .result) (r .ensures .1 .1) size (r .ensures .0) (r .ensures .1 .0) (omega arith) in
-    (subst (λ (t : List ℕ). Written 0 t (s .args .out .now) (c .refusal-text .last .0) (c .refusal-text .result)) (told .0) (subst (λ (old : List ℕ). Written 0 (refusedText (r .result .refusal) (r .result .line)) old (c .refusal-text .last .0) (c .refusal-text .result)) (told .1) (c .refusal-text .ensures .0)), omega (arith, c .refusal-text .ensures .1, size, c .refusal-text .kept .0, ap length (told .1)))
+    let sheet = take (s .args .n) (s .args .room .now) in
+    let told = refusal-told sheet (s .args .out .now) (r .last .1 .0) (r .result) (r .ensures .1 .1) size (r .ensures .0) (r .ensures .1 .0) (omega arith) in
+    let w = c .refusal-text in
+    let over = subst (λ (old : List ℕ). Written 0 (refusedText (r .result .refusal) (r .result .line)) old (w .last .0) (w .result)) (told .1) (w .ensures .0) in
+    let text = subst (λ (t : List ℕ). Written 0 t (s .args .out .now) (w .last .0) (w .result)) (told .0) over in
+    (text, omega (arith, w .ensures .1, size, w .kept .0, ap length (told .1)))
 
 pub print-spec : {M : Type 1} → statement M
 print-spec = tie.close (tie.spec (λ c. sym (length-take-le _ _ (c .before .before .pre .1))) answered-requires returns refusal-text-requires returns-2)

@@ -16,7 +16,8 @@ use Rattle.formulas.specs.Items.{shuttle, heatCount}
 use Rattle.formulas.specs.Report.{figures, lineCount}
 use Rattle.report.specs.Figures.{Found}
 use Rattle.report.proofs.Filling.{filled, full}
-use Rattle.report.proofs.Printing.{useful-at, withset-at, eff1-at, eff2-at, per-tonne-can, of-fuel-can, number-is, per-tonne-is, eff1-is, eff2-is, figures-long}
+use Rattle.report.proofs.Printing.{useful-at, withset-at, eff1-at, eff2-at, figures-long}
+use Rattle.report.proofs.Printing.{per-tonne-can, of-fuel-can, number-is, per-tonne-is, eff1-is, eff2-is}
 use Rattle.report.proofs.joules.figures.Statement.{statement}
 use Rattle.report.proofs.joules.figures.Tie as tie
 
@@ -68,7 +69,8 @@ returns c =
     let end : l .i ≡ heatCount shuttle = omega arith in
     let first = filled 0 (pos 0 ∷ []) (figures f) _ (lit< tt) (omega (arith, long)) refl (widened (narrow t) ∙ number-is p) in
     let heats = subst (λ (i : ℕ). take (i + 1) (l .out) ≡ take (i + 1) (figures f)) end (l .inv .3 f _ p first) in
-    let eff1 = filled eff1-at (l .out) (figures f) x (omega arith) (omega (arith, long)) heats (toZ-ofZ (sfits-of (a .of-fuel .ok)) ∙ a .of-fuel .ensures ∙ eff1-is p) in
+    let eff1 = filled eff1-at (l .out) (figures f) x (omega arith) (omega (arith, long)) heats
+    (toZ-ofZ (sfits-of (a .of-fuel .ok)) ∙ a .of-fuel .ensures ∙ eff1-is p) in
     let long1 = set-long ℤ (l .out) eff1-at (lineCount shuttle) x (l .inv .2) in
     let eff2 = filled eff2-at (set (l .out) eff1-at x) (figures f) y (omega (arith, long1)) (omega (arith, long)) eff1
     (toZ-ofZ (sfits-of (c .of-fuel2 .ok)) ∙ c .of-fuel2 .ensures ∙ eff2-is p) in

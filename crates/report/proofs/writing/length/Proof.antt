@@ -19,7 +19,11 @@ use Rattle.report.proofs.writing.length.Statement.{statement}
 use Rattle.report.proofs.writing.length.Tie as tie
 
 abbrev Inv-loop : tie.InvT-loop
-Inv-loop figures n₀ i₀ n i = (i ≤ lineCount shuttle) × (length figures ≡ lineCount shuttle) × (n ≡ length (linesText (keys shuttle) (take i figures))) × (n ≤ lineMost * i)
+Inv-loop figures n₀ i₀ n i =
+    (i ≤ lineCount shuttle)
+    × (length figures ≡ lineCount shuttle)
+    × (n ≡ length (linesText (keys shuttle) (take i figures)))
+    × (n ≤ lineMost * i)
 
 abbrev μ-loop : tie.MeasureT-loop
 μ-loop figures n₀ i₀ n i = lineCount shuttle - i
@@ -49,7 +53,8 @@ loop-again : tie.Need-loop-again Inv-loop μ-loop
 loop-again c =
     let l = c .before .before .before .loop in
     let zs = c .before .before .before .before .args .t1 in
-    let e = ap (λ (z : ℤ). length (line (getD (keys shuttle) (l .i) []) z)) (toZ-ofZ {w = w64} {z = getD zs (l .i) (pos 0)} (sfits-of (c .before .line-length-arg .given))) in
+    let z = toZ-ofZ {w = w64} {z = getD zs (l .i) (pos 0)} (sfits-of (c .before .line-length-arg .given)) in
+    let e = ap (λ (z : ℤ). length (line (getD (keys shuttle) (l .i) []) z)) z in
     let m = longer (keys shuttle) zs (l .i) (pos 0) (omega (arith, keys-count)) (omega arith) in
     (omega arith, l .inv .1, omega (arith, e, m), omega arith)
 

@@ -40,17 +40,24 @@ wide : (c : tie.Start) (n : ℤ) → n ≡ c .args .figure → length (decimal n
 wide c n e = ap (λ (x : ℤ). length (decimal x)) e
 
 add-result : tie.Need-add-result
-add-result c = omega (arith, key-at (c .before .args .i) (c .before .pre) .short, i64-width (c .before .args .figure) (c .before .fits .figure), c .width .ensures ∙ wide (c .before) _ (toZ-ofZ (c .before .fits .figure)))
+add-result c =
+    let s = c .before in
+    let w = c .width .ensures ∙ wide s _ (toZ-ofZ (s .fits .figure)) in
+    omega (arith, key-at (s .args .i) (s .pre) .short, i64-width (s .args .figure) (s .fits .figure), w)
 
 add-result-2 : tie.Need-add-result-2
-add-result-2 c = omega (arith, key-at (c .before .args .i) (c .before .pre) .short, i64-width (c .before .args .figure) (c .before .fits .figure), c .width .ensures ∙ wide (c .before) _ (toZ-ofZ (c .before .fits .figure)))
+add-result-2 c =
+    let s = c .before in
+    let w = c .width .ensures ∙ wide s _ (toZ-ofZ (s .fits .figure)) in
+    omega (arith, key-at (s .args .i) (s .pre) .short, i64-width (s .args .figure) (s .fits .figure), w)
 
 returns : tie.Need-returns
 returns c =
     let s = c .before in
     let k = key-at (s .args .i) (s .pre) in
     let w = c .width .ensures ∙ wide s _ (toZ-ofZ (s .fits .figure)) in
-    (omega (arith, length-line (getD (keys shuttle) (s .args .i) []) (s .args .figure), k .size, w), omega (arith, k .short, i64-width (s .args .figure) (s .fits .figure), w))
+    let parts = length-line (getD (keys shuttle) (s .args .i) []) (s .args .figure) in
+    (omega (arith, parts, k .size, w), omega (arith, k .short, i64-width (s .args .figure) (s .fits .figure), w))
 
 pub line-length-spec : {M : Type 1} → statement M
 line-length-spec =

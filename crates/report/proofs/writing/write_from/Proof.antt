@@ -83,22 +83,30 @@ L c = I c .before
 abbrev S : (c : tie.After-line-at-arg3 Inv-loop μ-loop) → tie.Start Inv-loop μ-loop
 S c = L c .before .before
 
+abbrev ks : (c : tie.After-line-at-arg3 Inv-loop μ-loop) → List (List ℕ)
+ks c = from (S c .args .first)
+
+abbrev zs : (c : tie.After-line-at-arg3 Inv-loop μ-loop) → List ℤ
+zs c = S c .args .figures .now
+
 -- what is written before the turn
 abbrev before : (c : tie.After-line-at-arg3 Inv-loop μ-loop) → List ℕ
-before c = linesText (from (S c .args .first)) (take (L c .loop .i) (S c .args .figures .now))
+before c = linesText (ks c) (take (L c .loop .i) (zs c))
 
 -- the line as the call has it
 abbrev called : (c : tie.After-line-at-arg3 Inv-loop μ-loop) → List ℕ
-called c = line (cut (due (I c))) (toZ w64 (ofZ w64 (getD (S c .args .figures .now) (L c .loop .i) (pos 0))))
+called c = line (cut (due (I c))) (toZ w64 (ofZ w64 (getD (zs c) (L c .loop .i) (pos 0))))
 
-as-called : (c : tie.After-line-at-arg3 Inv-loop μ-loop) → called c ≡ line (getD (from (S c .args .first)) (L c .loop .i) []) (getD (S c .args .figures .now) (L c .loop .i) (pos 0))
-as-called c = ap₂ line (key (I c) .key ∙ sym (getD-drop (S c .args .first) (keys shuttle) (L c .loop .i) [])) (toZ-ofZ (sfits-of (c .line-at-arg3 .given)))
+as-called : (c : tie.After-line-at-arg3 Inv-loop μ-loop) → called c ≡ line (getD (ks c) (L c .loop .i) []) (getD (zs c) (L c .loop .i) (pos 0))
+as-called c =
+    let k = key (I c) .key ∙ sym (getD-drop (S c .args .first) (keys shuttle) (L c .loop .i) []) in
+    ap₂ line k (toZ-ofZ (sfits-of (c .line-at-arg3 .given)))
 
 -- what the turn will have written
-turn : (c : tie.After-line-at-arg3 Inv-loop μ-loop) → linesText (from (S c .args .first)) (take (L c .loop .i + 1) (S c .args .figures .now)) ≡ before c ++ called c
+turn : (c : tie.After-line-at-arg3 Inv-loop μ-loop) → linesText (ks c) (take (L c .loop .i + 1) (zs c)) ≡ before c ++ called c
 turn c =
-    let due : L c .loop .i < length (from (S c .args .first)) = omega (arith, keys-count, length-drop (S c .args .first) (keys shuttle)) in
-    one-more (from (S c .args .first)) (S c .args .figures .now) (L c .loop .i) (pos 0) due (omega arith) ∙ ap (λ (l : List ℕ). before c ++ l) (sym (as-called c))
+    let some : L c .loop .i < length (ks c) = omega (arith, keys-count, length-drop (S c .args .first) (keys shuttle)) in
+    one-more (ks c) (zs c) (L c .loop .i) (pos 0) some (omega arith) ∙ ap (λ (l : List ℕ). before c ++ l) (sym (as-called c))
 
 loop-again : tie.Need-loop-again Inv-loop μ-loop
 loop-again c =
@@ -108,7 +116,7 @@ loop-again c =
 line-at-requires : tie.Need-line-at-requires Inv-loop μ-loop
 line-at-requires c κs =
     let w = L c .loop .inv .1 in
-    let in-room = not-longer (from (S c .args .first)) (S c .args .figures .now) (L c .loop .i + 1) in
+    let in-room = not-longer (ks c) (zs c) (L c .loop .i + 1) in
     let room = ap length (turn c) ∙ length-append (before c) (called c) in
     let size = ap length (w .holds) ∙ length-over 0 (before c) (S c .args .out .now) (omega (arith, in-room, room, S c .pre .1)) in
     omega (arith, w .ends, in-room, room, size, S c .pre .1)
@@ -123,9 +131,9 @@ same-length : tie.Need-same-length Inv-loop μ-loop
 same-length c =
     let s = c .before .before .before in
     let l = c .before .loop in
-    let ks = from (s .args .first) in
-    ap length (l .inv .1 .holds)
-    ∙ length-over 0 (linesText ks (take (l .i) (s .args .figures .now))) (s .args .out .now) (omega (arith, not-longer ks (s .args .figures .now) (l .i), s .pre .1))
+    let text = linesText (from (s .args .first)) (take (l .i) (s .args .figures .now)) in
+    let in-room = not-longer (from (s .args .first)) (s .args .figures .now) (l .i) in
+    ap length (l .inv .1 .holds) ∙ length-over 0 text (s .args .out .now) (omega (arith, in-room, s .pre .1))
 
 returns : tie.Need-returns Inv-loop μ-loop
 returns c =
