@@ -29,14 +29,21 @@ use Rattle.kiln.proofs.answered.Tie as tie
 judged-requires : tie.Need-judged-requires
 judged-requires c κs = search needs
 
+-- where the sheet has been read, and its bytes
+abbrev J : tie.After-head → tie.After-judged
+J c = c .before .before .before .before .before
+
+abbrev bytes : tie.After-judged → List ℕ
+bytes c = c .before .before .before .args .sheet .now
+
 -- what was accepted
-abbrev firing : (c : tie.After-head) → Firm (c .before .before .before .before .before .before .before .before .args .sheet .now) (c .before .before .before .before .before .judged .result .sheet)
-firing c =
-    let j = c .before .before .before .before .before .judged in
-    firm-judged _ (j .result) (j .ensures) (is-good (j .result .place) (c .before .before .if1 .taken))
+abbrev firing : (c : tie.After-head) → Firm (bytes (J c)) (J c .judged .result .sheet)
+firing c = let j = J c .judged in firm-judged _ (j .result) (j .ensures) (is-good (j .result .place) (c .before .before .if1 .taken))
 
 -- what was refused
-abbrev refusal : (c : tie.Else1) → let r = c .before .before .before .judged .result in readOf document (c .before .before .before .before .before .before .args .sheet .now) ≡ Refused (reason (r .place)) (r .place .line)
+abbrev refusal : (c : tie.Else1) →
+    let j = c .before .before .before in
+    readOf document (bytes j) ≡ Refused (reason (j .judged .result .place)) (j .judged .result .place .line)
 refusal c =
     let j = c .before .before .before .judged in
     refused-judged _ (j .result) (j .ensures) (is-bad (j .result .place) (c .if1 .left))
@@ -48,7 +55,9 @@ balance-requires : tie.Need-balance-requires
 balance-requires c κs = (firingOf (firing c .sheet), kept (firing c))
 
 -- its number, product and heats
-found : (c : tie.After-balance) → let x = c .before .before .before .before .before .before .judged .result .sheet in Found (firingOf (firing (c .before) .sheet)) (x .head .firing .0) (x .head .product .0) (c .balance .result)
+found : (c : tie.After-balance) →
+    let head = J (c .before) .judged .result .sheet .head in
+    Found (firingOf (firing (c .before) .sheet)) (head .firing .0) (head .product .0) (c .balance .result)
 found c =
     let k = kept (firing (c .before)) in
     record { is-number = sym (field k (λ f. f .number)); is-product = sym (field k (λ f. f .product)); balanced = c .balance .ensures _ k; limits = k .limits }
@@ -69,22 +78,27 @@ unfolding report
 returns c =
     let w = c .before .before .reported .ensures in
     let d = c .before .before .before .before .before in
-    let s = d .before .before .before .before .before .before .before .before .before .before in
+    let j = J (d .before .before) in
+    let s = bytes j in
+    let room = j .before .before .before .args .room .now in
     let a = firing (d .before .before) in
-    let text : linesText (keys shuttle) (d .figures .result) ≡ report (firingOf (a .sheet)) = ap (linesText (keys shuttle)) (d .figures .ensures (firingOf (a .sheet)) (found (d .before))) in (
-      w .0 ∙ ap (λ (t : List ℕ). fitted t (length (s .args .room .now))) text ∙ answer-good (s .args .sheet .now) (a .good) (length (s .args .room .now)),
-      (w .1 .0 ∙ ap (λ (t : List ℕ). placed t (s .args .room .now)) text ∙ buffer-good (s .args .sheet .now) (a .good) (s .args .room .now), short-good (s .args .sheet .now) (a .good) (rw text at (w .1 .1))),
-    )
+    let f = firingOf (a .sheet) in
+    let text : linesText (keys shuttle) (d .figures .result) ≡ report f = ap (linesText (keys shuttle)) (d .figures .ensures f (found (d .before))) in
+    let answer = w .0 ∙ ap (λ (t : List ℕ). fitted t (length room)) text ∙ answer-good s (a .good) (length room) in
+    let buffer = w .1 .0 ∙ ap (λ (t : List ℕ). placed t room) text ∙ buffer-good s (a .good) room in
+    (answer, (buffer, short-good s (a .good) (rw text at (w .1 .1))))
 
 refused-requires : tie.Need-refused-requires
 refused-requires c κs = omega (arith, refuses _ _ _ (refusal (c .before)) .within)
 
 returns-2 : tie.Need-returns-2
 returns-2 c =
-    let s = c .before .before .before .before .before .before .before .before in
     let e = refusal (c .before .before) in
-    let n = c .before .before .before .before .before .judged .result .place .line in
-    (c .refused .ensures ∙ ap (λ (x : Refusal). refusedAs (number x) n) (c .before .refusal-of .ensures) ∙ answer-bad (s .args .sheet .now) e (length (s .args .room .now)), (buffer-bad (s .args .sheet .now) e (s .args .room .now), short-bad (s .args .sheet .now) e))
+    let j = c .before .before .before .before .before in
+    let s = bytes j in
+    let room = j .before .before .before .args .room .now in
+    let why = ap (λ (x : Refusal). refusedAs (number x) (j .judged .result .place .line)) (c .before .refusal-of .ensures) in
+    (c .refused .ensures ∙ why ∙ answer-bad s e (length room), (buffer-bad s e room, short-bad s e))
 
 pub answered-spec : {M : Type 1} → statement M
 answered-spec =

@@ -36,7 +36,8 @@ returns-2 c =
     let sheet = take (s .args .n) (s .args .room .now) in
     let told = refusal-told sheet (s .args .out .now) (r .last .1 .0) (r .result) (r .ensures .1 .1) size (r .ensures .0) (r .ensures .1 .0) (omega arith) in
     let w = c .refusal-text in
-    let over = subst (λ (old : List ℕ). Written 0 (refusedText (r .result .refusal) (r .result .line)) old (w .last .0) (w .result)) (told .1) (w .ensures .0) in
+    let refusal = refusedText (r .result .refusal) (r .result .line) in
+    let over = subst (λ (old : List ℕ). Written 0 refusal old (w .last .0) (w .result)) (told .1) (w .ensures .0) in
     let text = subst (λ (t : List ℕ). Written 0 t (s .args .out .now) (w .last .0) (w .result)) (told .0) over in
     (text, omega (arith, w .ensures .1, size, w .kept .0, ap length (told .1)))
 
