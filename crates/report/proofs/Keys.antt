@@ -11,6 +11,7 @@ use lib.Dec.{T, eqb, leb, leb→le, eqb→eq}
 use Rattle.text.specs.Bytes.{bytes}
 use Rattle.arith.proofs.Ring.{both-left, both-right}
 use Rattle.lines.specs.Reader.{sameKey}
+use Rattle.lines.specs.Tests.{all}
 use Rattle.formulas.specs.Items.{shuttle, heats}
 use Rattle.formulas.specs.Report.{lines, lineCount, keys, heatKeys}
 use Rattle.report.specs.Lengths.{keyMost}
@@ -25,8 +26,20 @@ starts = 0 ∷ 6 ∷ 8 ∷ 10 ∷ 12 ∷ 14 ∷ 16 ∷ 18 ∷ 20 ∷ 22 ∷ 24 �
 abbrev pub start : ℕ → ℕ
 start i = getD starts i 0
 
+abbrev pub between : ℕ → ℕ → List ℕ
+between begin end = take (end - begin) (drop begin letters)
+
 abbrev pub cut : ℕ → List ℕ
-cut i = take (start (i + 1) - start i) (drop (start i) letters)
+cut i = between (start i) (start (i + 1))
+
+-- no start is beyond the letters, so each fits a byte
+small-at : (l : List ℕ) (i : ℕ) → T (all (λ x. leb x (length letters)) l) → getD l i 0 ≤ length letters
+small-at [] i h = omega arith
+small-at (x ∷ l) zero h = leb→le x (length letters) (both-left (leb x (length letters)) (all (λ y. leb y (length letters)) l) h)
+small-at (x ∷ l) (suc i) h = small-at l i (both-right (leb x (length letters)) (all (λ y. leb y (length letters)) l) h)
+
+pub start-small : (i : ℕ) → start i ≤ length letters
+start-small i = small-at starts i tt
 
 -- what is asked of the table at i
 right : ℕ → Bool

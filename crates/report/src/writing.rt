@@ -22,10 +22,10 @@ const LINE_MOST: usize = 30;
 // No report is longer.
 const MOST: usize = LINES * LINE_MOST;
 
-// The keys, one after the other, and where each begins.
+// The keys, one after the other, and where each begins: in bytes, since whoever indexes them lays them out (docs/DECISIONS.md, Speed).
 const KEYS: [u8; 59] = *b"firingq1q2q3q5q8inx1x2x3x5x7x8x9x10x11usefulwithseteff1eff2";
 
-const STARTS: [usize; LINES + 1] = [
+const STARTS: [u8; LINES + 1] = [
     0,
     6,
     8,
@@ -56,7 +56,7 @@ fn line_length(i: usize, figure: i64) -> usize
     ensures { λ r. ⌜ r ≤ lineMost ⌝ }
 {
     let key = STARTS[i + 1] - STARTS[i];
-    key + pen::width(figure) + 2
+    key as usize + pen::width(figure) + 2
 }
 
 // How long the report is.
@@ -93,13 +93,13 @@ fn write_from(out: &mut [u8], first: usize, figures: &[i64]) -> usize
 {
     let keys = KEYS;
     let starts = STARTS;
+    let mut start = starts[first] as usize;
     let mut at = 0;
     let mut i = 0;
     while i < figures.len() {
-        let line = first + i;
-        let start = starts[line];
-        let end = starts[line + 1];
+        let end = starts[first + i + 1] as usize;
         at = pen::line_at(out, at, &keys[start..end], figures[i]);
+        start = end;
         i += 1;
     }
     at

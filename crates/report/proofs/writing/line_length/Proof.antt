@@ -17,20 +17,17 @@ use Rattle.report.proofs.writing.line_length.Tie as tie
 add-key : tie.Need-add-key
 add-key c = search needs
 
-mul-key : tie.Need-mul-key
-mul-key c = search needs
-
 array-read-key : tie.Need-array-read-key
 array-read-key c = search needs
-
-mul-key-2 : tie.Need-mul-key-2
-mul-key-2 c = search needs
 
 array-read-key-2 : tie.Need-array-read-key-2
 array-read-key-2 c = search needs
 
 sub-key : tie.Need-sub-key
 sub-key c = key-at (c .args .i) (c .pre) .order
+
+cast-result : tie.Need-cast-result
+cast-result c = let short = key-at (c .args .i) (c .pre) .short in omega arith
 
 width-requires : tie.Need-width-requires
 width-requires c κs = search needs
@@ -64,11 +61,10 @@ line-length-spec =
     tie.close
     (tie.spec
     add-key
-    mul-key
     array-read-key
-    mul-key-2
     array-read-key-2
     sub-key
+    cast-result
     width-requires
     add-result
     add-result-2

@@ -15,7 +15,7 @@ use Rattle.pen.specs.Writing.{Written}
 use Rattle.pen.proofs.Writing.{begun, next, length-over}
 use Rattle.formulas.specs.Items.{shuttle}
 use Rattle.formulas.specs.Report.{keys, linesText}
-use Rattle.report.proofs.Keys.{key-at, Key, cut, keys-count}
+use Rattle.report.proofs.Keys.{start, between, start-small, key-at, Key, keys-count}
 use Rattle.report.proofs.Lines.{no-lines, one-more, not-longer}
 use Rattle.report.proofs.writing.write_from.Statement.{statement}
 use Rattle.report.proofs.writing.write_from.Tie as tie
@@ -25,13 +25,23 @@ abbrev from : ℕ → List (List ℕ)
 from first = drop first (keys shuttle)
 
 abbrev Inv-loop : tie.InvT-loop
-Inv-loop out₀ first figures letters starts at₀ i₀ out at i = (i ≤ length figures) × Written 0 (linesText (from first) (take i figures)) out₀ out at
+Inv-loop out₀ first figures letters starts start₀ at₀ i₀ out begin at i =
+    (i ≤ length figures) × (begin ≡ start (first + i)) × Written 0 (linesText (from first) (take i figures)) out₀ out at
 
 abbrev μ-loop : tie.MeasureT-loop
-μ-loop out₀ first figures letters starts at₀ i₀ out at i = length figures - i
+μ-loop out₀ first figures letters starts start₀ at₀ i₀ out begin at i = length figures - i
+
+array-read-start : tie.Need-array-read-start Inv-loop μ-loop
+array-read-start c = omega arith
+
+cast-start : tie.Need-cast-start Inv-loop μ-loop
+cast-start c = omega (arith, start-small (c .before .args .first))
 
 loop-holds : tie.Need-loop-holds Inv-loop μ-loop
-loop-holds c = (omega arith, rw (no-lines (from (c .before .args .first))) (begun 0 (c .before .args .out .now)))
+loop-holds c =
+    let a = c .before .args in
+    let none : a .first + 0 ≡ a .first = omega arith in
+    (omega arith, ap start (sym none), rw (no-lines (from (a .first))) (begun 0 (a .out .now)))
 
 -- the line that is due, and its key
 abbrev due : (c : tie.In-loop Inv-loop μ-loop) → ℕ
@@ -40,29 +50,23 @@ due c = c .before .before .before .args .first + c .before .loop .i
 abbrev key : (c : tie.In-loop Inv-loop μ-loop) → Key (due c)
 key c = key-at (due c) (omega arith)
 
-add-line : tie.Need-add-line Inv-loop μ-loop
-add-line c = omega arith
-
-mul-start : tie.Need-mul-start Inv-loop μ-loop
-mul-start c = omega arith
-
-array-read-start : tie.Need-array-read-start Inv-loop μ-loop
-array-read-start c = omega arith
-
 add-end : tie.Need-add-end Inv-loop μ-loop
 add-end c = omega arith
 
-mul-end : tie.Need-mul-end Inv-loop μ-loop
-mul-end c = omega arith
+add-end-2 : tie.Need-add-end-2 Inv-loop μ-loop
+add-end-2 c = omega arith
 
 array-read-end : tie.Need-array-read-end Inv-loop μ-loop
 array-read-end c = omega arith
 
+cast-end : tie.Need-cast-end Inv-loop μ-loop
+cast-end c = omega (arith, start-small (due c + 1))
+
 sub-line-at : tie.Need-sub-line-at Inv-loop μ-loop
-sub-line-at c = key (c .before) .order
+sub-line-at c = rw (c .before .before .loop .inv .1) (key (c .before) .order)
 
 part-line-at-start : tie.Need-part-line-at-start Inv-loop μ-loop
-part-line-at-start c = key (c .before .before) .order
+part-line-at-start c = rw (c .before .before .before .loop .inv .1) (key (c .before .before) .order)
 
 part-line-at-end : tie.Need-part-line-at-end Inv-loop μ-loop
 part-line-at-end c = key (c .before .before) .within
@@ -95,11 +99,12 @@ before c = linesText (ks c) (take (L c .loop .i) (zs c))
 
 -- the line as the call has it
 abbrev called : (c : tie.After-line-at-arg3 Inv-loop μ-loop) → List ℕ
-called c = line (cut (due (I c))) (toZ w64 (ofZ w64 (getD (zs c) (L c .loop .i) (pos 0))))
+called c = line (between (L c .loop .start) (start (due (I c) + 1))) (toZ w64 (ofZ w64 (getD (zs c) (L c .loop .i) (pos 0))))
 
 as-called : (c : tie.After-line-at-arg3 Inv-loop μ-loop) → called c ≡ line (getD (ks c) (L c .loop .i) []) (getD (zs c) (L c .loop .i) (pos 0))
 as-called c =
-    let k = key (I c) .key ∙ sym (getD-drop (S c .args .first) (keys shuttle) (L c .loop .i) []) in
+    let begun-at = ap (λ (n : ℕ). between n (start (due (I c) + 1))) (L c .loop .inv .1) in
+    let k = begun-at ∙ key (I c) .key ∙ sym (getD-drop (S c .args .first) (keys shuttle) (L c .loop .i) []) in
     ap₂ line k (toZ-ofZ (sfits-of (c .line-at-arg3 .given)))
 
 -- what the turn will have written
@@ -111,11 +116,12 @@ turn c =
 loop-again : tie.Need-loop-again Inv-loop μ-loop
 loop-again c =
     let d = c .before .before .before in
-    (omega arith, rw (turn d) (next (L d .loop .inv .1) (c .before .before .line-at .ensures)))
+    let on : due (I d) + 1 ≡ S d .args .first + (L d .loop .i + 1) = omega arith in
+    (omega arith, ap start on, rw (turn d) (next (L d .loop .inv .2) (c .before .before .line-at .ensures)))
 
 line-at-requires : tie.Need-line-at-requires Inv-loop μ-loop
 line-at-requires c κs =
-    let w = L c .loop .inv .1 in
+    let w = L c .loop .inv .2 in
     let in-room = not-longer (ks c) (zs c) (L c .loop .i + 1) in
     let room = ap length (turn c) ∙ length-append (before c) (called c) in
     let size = ap length (w .holds) ∙ length-over 0 (before c) (S c .args .out .now) (omega (arith, in-room, room, S c .pre .1)) in
@@ -133,7 +139,7 @@ same-length c =
     let l = c .before .loop in
     let text = linesText (from (s .args .first)) (take (l .i) (s .args .figures .now)) in
     let in-room = not-longer (from (s .args .first)) (s .args .figures .now) (l .i) in
-    ap length (l .inv .1 .holds) ∙ length-over 0 text (s .args .out .now) (omega (arith, in-room, s .pre .1))
+    ap length (l .inv .2 .holds) ∙ length-over 0 text (s .args .out .now) (omega (arith, in-room, s .pre .1))
 
 returns : tie.Need-returns Inv-loop μ-loop
 returns c =
@@ -142,7 +148,7 @@ returns c =
     let zs = s .args .figures .now in
     let end : l .i ≡ length zs = omega arith in
     let all = ap (λ (k : ℕ). take k zs) end ∙ take-length zs in
-    subst (λ (x : List ℤ). Written 0 (linesText (from (s .args .first)) x) (s .args .out .now) (l .out) (l .at)) all (l .inv .1)
+    subst (λ (x : List ℤ). Written 0 (linesText (from (s .args .first)) x) (s .args .out .now) (l .out) (l .at)) all (l .inv .2)
 
 pub write-from-spec : {M : Type 1} → statement M
 write-from-spec =
@@ -150,13 +156,13 @@ write-from-spec =
     (tie.spec
     Inv-loop
     μ-loop
-    loop-holds
-    add-line
-    mul-start
     array-read-start
+    cast-start
+    loop-holds
     add-end
-    mul-end
+    add-end-2
     array-read-end
+    cast-end
     sub-line-at
     part-line-at-start
     part-line-at-end
