@@ -66,7 +66,8 @@ allows c D₀ A flat = leb (2 * c * flat + D₀) (2 * A * D₀)
 abbrev spares : ℕ → ℕ → ℕ → ℕ → Bool
 spares c D₀ L rate = leb (c * thousand * rate) (L * D₀)
 
-printing : {w flat rate D₀ D : ℕ} {x y : ℤ} (c A L : ℕ) → Off w flat rate x y → 0 < D → D₀ ≤ D → 1 ≤ A → T (allows c D₀ A flat) → T (spares c D₀ L rate) → Within (A * thousand + L * w) thousand (nearest (x *ℤ pos c) D) (record { over = y *ℤ pos c; under = D })
+printing : {w flat rate D₀ D : ℕ} {x y : ℤ} (c A L : ℕ) → Off w flat rate x y → 0 < D → D₀ ≤ D → 1 ≤ A → T (allows c D₀ A flat)
+    → T (spares c D₀ L rate) → Within (A * thousand + L * w) thousand (nearest (x *ℤ pos c) D) (record { over = y *ℤ pos c; under = D })
 printing {w} {flat} {rate} {D₀} {D} c A L p some more one t u =
     let d = D - D₀ in
     let e : D ≡ D₀ + d = omega arith in
@@ -212,7 +213,8 @@ module _ (f : Firing) (h : Limits f) (choice : Choice) where
   abbrev leastProduct : ℕ
   leastProduct = joule * natAbs (product .least)
 
-  per-tonne : {key : List ℕ} {q : Quantity} (p : Bound q) → T (allows 10 leastProduct (allowed (heat q)) (p .flat)) → T (spares 10 leastProduct (leeway key) (p .rate)) → Near f choice (record { key = key; figure = heat q })
+  per-tonne : {key : List ℕ} {q : Quantity} (p : Bound q) → T (allows 10 leastProduct (allowed (heat q)) (p .flat))
+      → T (spares 10 leastProduct (leeway key) (p .rate)) → Near f choice (record { key = key; figure = heat q })
   unfolding printed
   per-tonne {key} {q} p t u =
       let ware : natAbs (product .least) ≤ natAbs (f .product) = let low = h .product .low in omega (arithℤ, abs-is (f .product)) in
@@ -232,7 +234,8 @@ module _ (f : Firing) (h : Limits f) (choice : Choice) where
       let heat : natAbs (heating .least) ≤ natAbs H = let low = h .heating .low in omega (arithℤ, abs-is H) in
       rw (abs-mul (G *ℤ H *ℤ pos 100) (pos joule), abs-mul (G *ℤ H) (pos 100), abs-mul G H) (omega (arith, mul-le-mul gas heat))
 
-  over-fuel : {key : List ℕ} {q : Quantity} (p : Bound q) → T (allows 10000 leastFuel (allowed (share q)) (p .flat)) → T (spares 10000 leastFuel (leeway key) (p .rate)) → Near f choice (record { key = key; figure = share q })
+  over-fuel : {key : List ℕ} {q : Quantity} (p : Bound q) → T (allows 10000 leastFuel (allowed (share q)) (p .flat))
+      → T (spares 10000 leastFuel (leeway key) (p .rate)) → Near f choice (record { key = key; figure = share q })
   unfolding printed q1
   over-fuel {key} {q} p t u =
       let some = le-trans (lit< tt) fuel-least in

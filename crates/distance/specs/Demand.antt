@@ -71,4 +71,5 @@ pub record Near (f : Firing) (choice : Choice) (l : Line) : Type 0 where
 -- ---- DEMAND 3: of every text that is accepted, whichever stand-in is chosen for each reading, every line of the report is near
 pub record Demand3 : Type 0 where
   pub enclosed : (n : ℕ) → Enclosed n
-  pub near : (text : List ℕ) (sheet : Sheet) → readOf document text ≡ Good sheet → (choice : Choice) → let f = firingOf sheet in Every (Near f choice) (lines (sidesOf (f .edition)))
+  pub near : (text : List ℕ) (sheet : Sheet) → readOf document text ≡ Good sheet → (choice : Choice)
+      → let f = firingOf sheet in Every (Near f choice) (lines (sidesOf (f .edition)))

@@ -136,7 +136,8 @@ module _ (e : EditionLine) (h : Heading) (f : Fuelling) (d : Drying) (a : Stagin
       })
 
 -- ---- group after group
-module _ (s : List ℕ) (start : Place) (e : EditionLine) (h : Heading) (f : Fuelling) (d : Drying) (a : Staging) (b : Loading) (c : Surfaces) (z : ClosingLine) (Z : Row → Type 0)
+module _ (s : List ℕ) (start : Place) (e : EditionLine) (h : Heading) (f : Fuelling) (d : Drying) (a : Staging) (b : Loading) (c : Surfaces)
+    (z : ClosingLine) (Z : Row → Type 0)
     (he : After s start (readLine sheetLine (λ row. none)) (e .place) (λ row. pos (e .edition .0) ≡ at row 0))
     (hh : GroupRead s (e .place) (partsOf heading) (h .place) (headingSays h))
     (hf : GroupRead s (h .place) (partsOf fuelling) (f .place) (fuellingSays f))
@@ -164,9 +165,11 @@ module _ (s : List ℕ) (start : Place) (e : EditionLine) (h : Heading) (f : Fue
       (λ t k.
       (let r = k .2 .0 in
       let top = filled sheetLine (r ∷ []) in
-      subst (λ (x : Sheet). After s (e .place) (readParts (linesOf (editionIn x)) x) (z .place) Q) (sym (k .1 ∙ ap (λ (y : List Row). filled sheetLine y) (k .2 .1)))
+      subst (λ (x : Sheet). After s (e .place) (readParts (linesOf (editionIn x)) x) (z .place) Q)
+      (sym (k .1 ∙ ap (λ (y : List Row). filled sheetLine y) (k .2 .1)))
       (after-weaker s (e .place) (z .place) _ (Said (aboveSays e h f d a b c ++ belowSays e h f d a b c Z) top) Q (held e h f d a b c Z r (k .2 .2))
-      (group-then (partsOf (heading ++ (fuelling ++ (drying ++ (staging ++ loading))))) below-read (aboveSays e h f d a b c) (belowSays e h f d a b c Z) top (above .after top)
+      (group-then (partsOf (heading ++ (fuelling ++ (drying ++ (staging ++ loading))))) below-read (aboveSays e h f d a b c) (belowSays e h f d a b c Z) top
+      (above .after top)
       (λ sheet m. group-then (partsOf surfaces) (partsOf ending) (surfacesSay c) (says endLine Z ∷ []) sheet (hc .after sheet (below e h f d a b c r sheet m))
       (λ u n. last .after u) (last .passes) (last .fair))
       (pass-on (hc .passes) (last .passes)) (last .fair)))))

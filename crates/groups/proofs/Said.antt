@@ -64,7 +64,8 @@ module _ {s : List ℕ} where
 
   -- two groups, of which the second asks for nothing
   infixr 5 _then_
-  pub _then_ : {p q q′ : Place} {ps qs : List Part} {xs ys : List Saying} → GroupRead s p ps q xs → GroupRead s q qs q′ ys → GroupRead s p (ps ++ qs) q′ (xs ++ ys)
+  pub _then_ : {p q q′ : Place} {ps qs : List Part} {xs ys : List Saying} → GroupRead s p ps q xs → GroupRead s q qs q′ ys
+      → GroupRead s p (ps ++ qs) q′ (xs ++ ys)
   _then_ {ps = ps} {qs = qs} {xs = xs} {ys = ys} a k = all-seen (ps ++ qs) (xs ++ ys) (λ seen.
       group-then ps qs xs ys seen (a .after seen) (λ sheet h. k .after sheet) (k .passes) (k .fair))
 
@@ -83,7 +84,8 @@ rows-kept k (x ∷ xs) seen sheet n a =
     let b = both (not (sameKey k (x .line .key))) (unsaid k xs) n in
     rows-kept k xs (seen ++ filled (x .line) (a .0)) sheet (b .1) (a .2) ∙ rows-other k (x .line) (a .0) seen (is-other (sameKey k (x .line .key)) (b .0))
 
-pub lacks-more : (k : List ℕ) (l : Line) (rows : List Row) (seen : Sheet) → not (sameKey k (l .key)) ≡ true → lacks k seen ≡ true → lacks k (seen ++ filled l rows) ≡ true
+pub lacks-more : (k : List ℕ) (l : Line) (rows : List Row) (seen : Sheet) → not (sameKey k (l .key)) ≡ true → lacks k seen ≡ true
+    → lacks k (seen ++ filled l rows) ≡ true
 lacks-more k l rows [] n e = rw n
 lacks-more k l rows (f ∷ fs) n e =
     let b = both (not (sameKey k (f .key))) (lacks k fs) e in

@@ -26,16 +26,19 @@ module _ {A : Type 0} where
   each-imp h above [] k = tt
   each-imp h above (x ∷ xs) k = (h above x (k .0), each-imp h (above ++ (x ∷ [])) xs (k .1))
 
-  pub each-with : {P Q R : List A → A → Type 0} → ((above : List A) (x : A) → P above x → Q above x → R above x) → (above xs : List A) → Each P above xs → Each Q above xs → Each R above xs
+  pub each-with : {P Q R : List A → A → Type 0} → ((above : List A) (x : A) → P above x → Q above x → R above x) → (above xs : List A)
+      → Each P above xs → Each Q above xs → Each R above xs
   each-with h above [] k m = tt
   each-with h above (x ∷ xs) k m = (h above x (k .0) (m .0), each-with h (above ++ (x ∷ [])) xs (k .1) (m .1))
 
   -- what does not look above holds of all
-  pub each-every : {P : List A → A → Type 0} {Q : A → Type 0} → ((above : List A) (x : A) → P above x → Q x) → (above xs : List A) → Each P above xs → Every Q xs
+  pub each-every : {P : List A → A → Type 0} {Q : A → Type 0} → ((above : List A) (x : A) → P above x → Q x) → (above xs : List A) → Each P above xs
+      → Every Q xs
   each-every h above [] k = tt
   each-every h above (x ∷ xs) k = (h above x (k .0), each-every h (above ++ (x ∷ [])) xs (k .1))
 
-  pub every-each : {P : A → Type 0} {Q : List A → A → Type 0} → ((above : List A) (x : A) → P x → Q above x) → (above xs : List A) → Every P xs → Each Q above xs
+  pub every-each : {P : A → Type 0} {Q : List A → A → Type 0} → ((above : List A) (x : A) → P x → Q above x) → (above xs : List A) → Every P xs
+      → Each Q above xs
   every-each h above [] k = tt
   every-each h above (x ∷ xs) k = (h above x (k .0), every-each h (above ++ (x ∷ [])) xs (k .1))
 
@@ -82,11 +85,13 @@ abbrev pub Ruled : List Part → Sheet → Sheet → Type 0
 Ruled = Along (λ p seen f. RowsRuled p seen (f .rows))
 
 module _ (l : Line) (rule : Rule) (seen : Sheet) where
-  rows-split : (above rows : List Row) → RowsKeep l rule seen above rows → RowsKeep l free seen above rows × Each (λ a row. rule (seen ++ filled l a) row ≡ none) above rows
+  rows-split : (above rows : List Row) → RowsKeep l rule seen above rows
+      → RowsKeep l free seen above rows × Each (λ a row. rule (seen ++ filled l a) row ≡ none) above rows
   rows-split above [] k = (tt, tt)
   rows-split above (row ∷ rows) k = let m = rows-split (above ++ (row ∷ [])) rows (k .2) in ((k .0, refl, m .0), (k .1, m .1))
 
-  rows-join : (above rows : List Row) → RowsKeep l free seen above rows → Each (λ a row. rule (seen ++ filled l a) row ≡ none) above rows → RowsKeep l rule seen above rows
+  rows-join : (above rows : List Row) → RowsKeep l free seen above rows → Each (λ a row. rule (seen ++ filled l a) row ≡ none) above rows
+      → RowsKeep l rule seen above rows
   rows-join above [] k m = tt
   rows-join above (row ∷ rows) k m = (k .0, m .0, rows-join (above ++ (row ∷ [])) rows (k .2) (m .1))
 

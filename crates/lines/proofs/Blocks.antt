@@ -29,7 +29,8 @@ pub record LineRead (l : Line) (rule : Row → Option Refusal) (row : Row) (text
   pub kept : rule row ≡ none
   pub whole : text ≡ lineText l row ++ rest
 
-pub line-got : (l : Line) (rule : Row → Option Refusal) (row : Row) (n : ℕ) (text : List ℕ) (m : ℕ) (rest : List ℕ) → readLine l rule n text ≡ got row m rest → LineRead l rule row text rest
+pub line-got : (l : Line) (rule : Row → Option Refusal) (row : Row) (n : ℕ) (text : List ℕ) (m : ℕ) (rest : List ℕ)
+    → readLine l rule n text ≡ got row m rest → LineRead l rule row text rest
 unfolding readLine
 line-got l rule row n text m rest e = here (judge l text) refl e
   where
@@ -61,7 +62,8 @@ module _ (l : Line) (rule : Rule) (seen : Sheet) where
     pub kept : RowsKeep l rule seen above rows
     pub whole : text ≡ rowsText l rows ++ rest
 
-  pub rows-got : (k : ℕ) (above all : List Row) (n : ℕ) (text : List ℕ) (m : ℕ) (rest : List ℕ) → readRows k l rule seen above n text ≡ got all m rest → RowsRead k above all text rest
+  pub rows-got : (k : ℕ) (above all : List Row) (n : ℕ) (text : List ℕ) (m : ℕ) (rest : List ℕ) → readRows k l rule seen above n text ≡ got all m rest
+      → RowsRead k above all text rest
   unfolding readRows rowsText
   rows-got zero above all n text m rest e = record { rows = []; count = refl; made = sym (append-nil above ∙ cc); kept = tt; whole = cc }
   rows-got (suc k) above all n text m rest e =
@@ -78,7 +80,8 @@ module _ (l : Line) (rule : Rule) (seen : Sheet) where
       }
 
   -- a block ends with its rows under its key
-  pub block-got : (k : ℕ) (sheet : Sheet) (n : ℕ) (text : List ℕ) (m : ℕ) (rest : List ℕ) → (readRows k l rule seen [] >>= (λ rows. return (seen ++ filled l rows))) n text ≡ got sheet m rest
+  pub block-got : (k : ℕ) (sheet : Sheet) (n : ℕ) (text : List ℕ) (m : ℕ) (rest : List ℕ)
+      → (readRows k l rule seen [] >>= (λ rows. return (seen ++ filled l rows))) n text ≡ got sheet m rest
       → (all : List Row) × (sheet ≡ seen ++ filled l all) × RowsRead k [] all text rest
   block-got k sheet n text m rest e =
       let s = andThen-got (readRows k l rule seen [] n text) (λ rows. return (seen ++ filled l rows)) sheet m rest e in
@@ -124,7 +127,8 @@ count-numbers a b (z ∷ y ∷ zs) e = let f = both (within (to a b) z) false e 
 count-row : (key : List ℕ) (a b : ℕ) (row : Row) → fits (countLine key a b) row ≡ true → row ≡ plain (pos (natAbs (getD (row .numbers) 0 (pos 0))) ∷ [])
 count-row key a b row h = let f = is-fit (countLine key a b) row h in f .unnamed ∙ ap plain (count-numbers a b (row .numbers) (f .inside))
 
-pub part-got : (p : Part) (seen sheet : Sheet) (n : ℕ) (text : List ℕ) (m : ℕ) (rest : List ℕ) → readPart p seen n text ≡ got sheet m rest → PartRead p seen sheet text rest
+pub part-got : (p : Part) (seen sheet : Sheet) (n : ℕ) (text : List ℕ) (m : ℕ) (rest : List ℕ) → readPart p seen n text ≡ got sheet m rest
+    → PartRead p seen sheet text rest
 part-got (one l rule) seen sheet n text m rest e =
     let u = block-got l rule seen 1 sheet n text m rest e in
     let d = u .2 in
@@ -167,7 +171,8 @@ pub record PartsRead (ps : List Part) (seen all : Sheet) (text rest : List ℕ) 
   pub kept : PartsKeep ps seen parts
   pub whole : text ≡ sheetText ps parts ++ rest
 
-pub parts-got : (ps : List Part) (seen sheet : Sheet) (n : ℕ) (text : List ℕ) (m : ℕ) (rest : List ℕ) → readParts ps seen n text ≡ got sheet m rest → PartsRead ps seen sheet text rest
+pub parts-got : (ps : List Part) (seen sheet : Sheet) (n : ℕ) (text : List ℕ) (m : ℕ) (rest : List ℕ) → readParts ps seen n text ≡ got sheet m rest
+    → PartsRead ps seen sheet text rest
 unfolding readParts sheetText
 parts-got [] seen sheet n text m rest e = record { parts = []; made = sym (append-nil seen ∙ cc); kept = tt; whole = cc }
 parts-got (p ∷ ps) seen sheet n text m rest e =

@@ -145,7 +145,10 @@ drying-laws = record {
       };
   asked = λ s e k.
       let ware = alone s _ (material-asks 3) in
-      record { to = λ r. ware .to (r .1 .0); from = λ r. unasked s _ (λ t r. refl) & ware .from r & unasked s _ (λ t r. refl) & unasked s _ (λ t r. refl) & tt };
+      record {
+        to = λ r. ware .to (r .1 .0);
+        from = λ r. unasked s _ (λ t r. refl) & ware .from r & unasked s _ (λ t r. refl) & unasked s _ (λ t r. refl) & tt;
+      };
 }
 
 -- ---- STAGES
@@ -190,7 +193,10 @@ loading-laws = record {
   asked = λ s e k.
       let setters = alone s _ (material-asks 2) in
       let parts = alone s _ (material-asks 1) in
-      record { to = λ r. record { setters = setters .to (r .0); parts = parts .to (r .1 .0) }; from = λ r. setters .from (r .setters) & parts .from (r .parts) & tt };
+      record {
+        to = λ r. record { setters = setters .to (r .0); parts = parts .to (r .1 .0) };
+        from = λ r. setters .from (r .setters) & parts .from (r .parts) & tt;
+      };
 }
 
 -- ---- SECTIONS, WALLS
@@ -247,7 +253,10 @@ surfaces-laws {edition} read o = record {
   asked = λ s e k.
       let sections = sections-ruled s in
       let walls = walls-ruled (wallLine .fields) s (allLines edition) k o in
-      record { to = λ r. record { numbered = sections .to (r .0); readings = walls .to (r .1 .0) }; from = λ r. sections .from (r .numbered) & walls .from (r .readings) & tt };
+      record {
+        to = λ r. record { numbered = sections .to (r .0); readings = walls .to (r .1 .0) };
+        from = λ r. sections .from (r .numbered) & walls .from (r .readings) & tt;
+      };
 }
 
 -- ---- END
@@ -288,7 +297,8 @@ gathered g =
       each = g .each;
       known = λ s e k a.
           let m = g .known s e k (back s a) .1 in
-          record { heading = m .0; fuelling = m .1 .0; drying = m .1 .1 .0; staging = m .1 .1 .1 .0; loading = m .1 .1 .1 .1 .0; surfaces = m .1 .1 .1 .1 .1 .0 };
+          let n = m .1 .1 in
+          record { heading = m .0; fuelling = m .1 .0; drying = n .0; staging = n .1 .0; loading = n .1 .1 .0; surfaces = n .1 .1 .1 .0 };
       asked = λ s e k. record {
         to = λ r. let m = g .asked s e k .to r .1 .1 in record { gas = m .0; ware = m .1 .0; loading = m .1 .1 .1 .0; surfaces = m .1 .1 .1 .1 .0 };
         from = λ a. g .asked s e k .from (back s a);

@@ -50,7 +50,8 @@ all-in (suc n) f (z ∷ zs) e = let b = both (within f z) (inRanges (replicate n
 pub one-in : {l : Line} {rows : List Row} → OneRow l rows → (i : ℕ) → FieldIn i (l .fields) (at (first rows) i)
 one-in {l = l} o i = rw (o .is) (field-in l (o .row) (o .fit) i)
 
-pub many-in : {A : Type 0} {l : Line} {most : ℕ} {rows : List Row} (P : A → Type 0) (of : Row → A) → ManyRows l most rows → ((r : Row) → ((i : ℕ) → FieldIn i (l .fields) (at r i)) → P (of r)) → Every P (map of rows)
+pub many-in : {A : Type 0} {l : Line} {most : ℕ} {rows : List Row} (P : A → Type 0) (of : Row → A) → ManyRows l most rows
+    → ((r : Row) → ((i : ℕ) → FieldIn i (l .fields) (at r i)) → P (of r)) → Every P (map of rows)
 many-in {l = l} {rows = rows} P of k h = made-every of P rows (every-imp (λ r e. h r (field-in l r e)) rows (k .fit))
 
 pub few : {A : Type 0} {l : Line} {most : ℕ} {rows : List Row} (of : Row → A) → ManyRows l most rows → length (map of rows) ≤ most

@@ -47,7 +47,10 @@ one-row l (row ∷ next ∷ rows) n k = absurd (omega arith)
 
 part-form : (p : Part) (seen : Sheet) (f : Filled) → PartKeeps (unruled p) seen f → Form p f
 part-form (one l rule) seen f k = record { key = k .0; rows = one-row l (f .rows) (k .1) (rows-fit l seen [] (f .rows) (k .2)) }
-part-form (many key a b l rule) seen f k = record { key = k .0; rows = record { few = count-most key a b (f .rows) (k .1); fit = rows-fit l seen [] (f .rows) (k .2) } }
+part-form (many key a b l rule) seen f k = record {
+  key = k .0;
+  rows = record { few = count-most key a b (f .rows) (k .1); fit = rows-fit l seen [] (f .rows) (k .2) };
+}
 
 -- THE PARTS OF A SHEET BY THEIR KEYS, where the keys differ
 abbrev pub Keyed : List Part → Sheet → Type 0
@@ -72,7 +75,8 @@ is-new : (key : List ℕ) (ps : List Part) → isNew key ps ≡ true → Every (
 is-new key [] n = tt
 is-new key (p ∷ ps) n = here (sameKey (keyOf p) key) refl (is-new key ps) n
   where
-    here : (t : Bool) → sameKey (keyOf p) key ≡ t → (isNew key ps ≡ true → Every (λ q. sameKey (keyOf q) key ≡ false) ps) → (not t && isNew key ps) ≡ true → Every (λ q. sameKey (keyOf q) key ≡ false) (p ∷ ps)
+    here : (t : Bool) → sameKey (keyOf p) key ≡ t → (isNew key ps ≡ true → Every (λ q. sameKey (keyOf q) key ≡ false) ps)
+        → (not t && isNew key ps) ≡ true → Every (λ q. sameKey (keyOf q) key ≡ false) (p ∷ ps)
     here true q rest n = clash cc
     here false q rest n = (q, rest n)
 
@@ -105,10 +109,12 @@ module _ (Q : Part → Sheet → List Row → Type 0) where
   own : (p : Part) (seen : Sheet) (f : Filled) (fs : Sheet) → sameKey (keyOf p) (f .key) ≡ true → Same (Q p seen (f .rows)) (AtKey seen (f ∷ fs) p)
   own p seen f fs o = moved p (rw (o, append-nil seen)) (rw o)
 
-  other : (p : Part) (seen : Sheet) (f : Filled) (fs : Sheet) → sameKey (keyOf p) (f .key) ≡ false → Same (AtKey (seen ++ (f ∷ [])) fs p) (AtKey seen (f ∷ fs) p)
+  other : (p : Part) (seen : Sheet) (f : Filled) (fs : Sheet) → sameKey (keyOf p) (f .key) ≡ false
+      → Same (AtKey (seen ++ (f ∷ [])) fs p) (AtKey seen (f ∷ fs) p)
   other p seen f fs o = moved p (rw o (append-snoc seen f (aboveKey (keyOf p) fs))) (rw o)
 
-  pub by-key : (ps : List Part) (seen sheet : Sheet) → distinct ps ≡ true → Keyed ps sheet → Same (Along (λ p s f. Q p s (f .rows)) ps seen sheet) (Every (AtKey seen sheet) ps)
+  pub by-key : (ps : List Part) (seen sheet : Sheet) → distinct ps ≡ true → Keyed ps sheet
+      → Same (Along (λ p s f. Q p s (f .rows)) ps seen sheet) (Every (AtKey seen sheet) ps)
   by-key [] seen [] n e = record { to = λ k. tt; from = λ k. tt }
   by-key [] seen (f ∷ fs) n e = absurd e
   by-key (p ∷ ps) seen [] n e = absurd e
@@ -175,12 +181,14 @@ no-rows k (p ∷ ps) (f ∷ fs) e h = here (sameKey k (f .key)) (no-rows k ps fs
     here true rest h = clash cc
     here false rest h = rest h
 
-pub seen-above : (k j : List ℕ) (ps : List Part) (sheet more : Sheet) → Keyed ps sheet → rowsOf k more ≡ [] → settled k j ps ≡ true → rowsOf k (aboveKey j sheet ++ more) ≡ rowsOf k sheet
+pub seen-above : (k j : List ℕ) (ps : List Part) (sheet more : Sheet) → Keyed ps sheet → rowsOf k more ≡ [] → settled k j ps ≡ true
+    → rowsOf k (aboveKey j sheet ++ more) ≡ rowsOf k sheet
 seen-above k j [] [] more e m h = m
 seen-above k j [] (f ∷ fs) more e m h = absurd e
 seen-above k j (p ∷ ps) [] more e m h = absurd e
 seen-above k j (p ∷ ps) (f ∷ fs) more e m h =
-    here (sameKey j (f .key)) (no-rows k (p ∷ ps) (f ∷ fs) e) (seen-above k j ps fs more (e .1) m) (subst (λ (x : List ℕ). cond (sameKey j x) (absent k (p ∷ ps)) (settled k j ps) ≡ true) (sym (e .0)) h)
+    here (sameKey j (f .key)) (no-rows k (p ∷ ps) (f ∷ fs) e) (seen-above k j ps fs more (e .1) m)
+    (subst (λ (x : List ℕ). cond (sameKey j x) (absent k (p ∷ ps)) (settled k j ps) ≡ true) (sym (e .0)) h)
   where
     here : (t : Bool) → (absent k (p ∷ ps) ≡ true → rowsOf k (f ∷ fs) ≡ []) → (settled k j ps ≡ true → rowsOf k (aboveKey j fs ++ more) ≡ rowsOf k fs)
         → cond t (absent k (p ∷ ps)) (settled k j ps) ≡ true → rowsOf k (cond t [] (f ∷ aboveKey j fs) ++ more) ≡ rowsOf k (f ∷ fs)
@@ -192,6 +200,7 @@ pub seen-own : (j : List ℕ) (sheet more : Sheet) → rowsOf j (aboveKey j shee
 seen-own j [] more = refl
 seen-own j (f ∷ fs) more = here (sameKey j (f .key)) refl (seen-own j fs more)
   where
-    here : (t : Bool) → sameKey j (f .key) ≡ t → rowsOf j (aboveKey j fs ++ more) ≡ rowsOf j more → rowsOf j (cond t [] (f ∷ aboveKey j fs) ++ more) ≡ rowsOf j more
+    here : (t : Bool) → sameKey j (f .key) ≡ t → rowsOf j (aboveKey j fs ++ more) ≡ rowsOf j more
+        → rowsOf j (cond t [] (f ∷ aboveKey j fs) ++ more) ≡ rowsOf j more
     here true q rest = refl
     here false q rest = rw q rest

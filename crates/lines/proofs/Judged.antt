@@ -69,7 +69,8 @@ pub line-length : (l : Line) (row : Row) → length (lineText l row) ≡ suc (le
 unfolding lineText
 line-length l row = length-append (bodyText l row) (10 ∷ []) ∙ omega arith
 
-pub judge-text : (l : Line) (row : Row) (rest : List ℕ) → sound l ≡ true → fits l row ≡ true → judge l (lineText l row ++ rest) ≡ values row (length (lineText l row))
+pub judge-text : (l : Line) (row : Row) (rest : List ℕ) → sound l ≡ true → fits l row ≡ true
+    → judge l (lineText l row ++ rest) ≡ values row (length (lineText l row))
 unfolding judge formedBy lineText
 judge-text l row rest s h =
     let a = is-sound l s in

@@ -21,7 +21,8 @@ use Rattle.lines.proofs.Entries.{Lawful, FormedAt, allLines, AllKeep, s
 
 -- THE LINES, the first with those that it chooses: what it says is the edition, also of the whole sheet
 all-lines : (below : ℤ → List Part) (whole : Sheet → Option Refusal) (sheet : Sheet)
-    → Same (LinesKeep (record { first = opening .part; below = λ seen. below (editionIn seen); whole = whole }) sheet) (PartsKeep (opening .part ∷ below (editionIn sheet)) [] sheet)
+    → Same (LinesKeep (record { first = opening .part; below = λ seen. below (editionIn seen); whole = whole }) sheet)
+    (PartsKeep (opening .part ∷ below (editionIn sheet)) [] sheet)
 all-lines below whole [] = record { to = λ k. k; from = λ k. k }
 all-lines below whole (f ∷ fs) =
     let e : f .key ≡ bytes "sheet" → editionIn (f ∷ []) ≡ editionIn (f ∷ fs) = λ k. rw k in
@@ -79,7 +80,8 @@ pub lines-kept : (sheet : Sheet) → Keeps document sheet → AllKeep sheet
 lines-kept sheet k =
     let ps = allLines (editionIn sheet) in
     let e = form-in sheet (form-kept sheet k) .keyed in
-    lines-ruled sheet e .to (by-key RowsRuled ps [] sheet (sheets (editionIn sheet) .distinct) e .to (parts-split ps [] sheet (ruled-lines sheet .to (k .lines)) .1))
+    lines-ruled sheet e .to
+    (by-key RowsRuled ps [] sheet (sheets (editionIn sheet) .distinct) e .to (parts-split ps [] sheet (ruled-lines sheet .to (k .lines)) .1))
 
 -- THE LAWS, of any sheet
 pub rules-kept : (sheet : Sheet) → Keeps document sheet → KeepsRules sheet
@@ -111,8 +113,8 @@ all-kept sheet k r =
       loading = record { setters = r .setters; parts = r .parts };
       surfaces = record { numbered = r .numbered; readings = record { listed = r .listed; staged = r .staged; once = r .once; warm = r .warm } };
     } in
-    let tests = lines-ruled sheet e .from lines in
+    let tests = by-key RowsRuled ps [] sheet (sheets (editionIn sheet) .distinct) e .from (lines-ruled sheet e .from lines) in
     record {
-      lines = ruled-lines sheet .from (parts-join ps [] sheet (formed-lines sheet .to (k .lines)) (by-key RowsRuled ps [] sheet (sheets (editionIn sheet) .distinct) e .from tests));
+      lines = ruled-lines sheet .from (parts-join ps [] sheet (formed-lines sheet .to (k .lines)) tests);
       whole = whole-asks (stagesIn sheet) (sectionsIn sheet) (wallsIn sheet) .from (r .total, r .read);
     }

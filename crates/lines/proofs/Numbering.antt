@@ -76,15 +76,18 @@ abbrev Reached : {A : Type 0} → ℕ → Read A → Type 0
 Reached most (stopped r n) = (0 < number r) × (n ≤ most)
 Reached most (got a n rest) = n + length rest ≤ most
 
-then-reached : {A B : Type 0} (r : Read A) (f : A → Reader B) (most : ℕ) → Reached most r → ((a : A) (n : ℕ) (rest : List ℕ) → n + length rest ≤ most → Reached most (f a n rest)) → Reached most (andThen r f)
+then-reached : {A B : Type 0} (r : Read A) (f : A → Reader B) (most : ℕ) → Reached most r
+    → ((a : A) (n : ℕ) (rest : List ℕ) → n + length rest ≤ most → Reached most (f a n rest)) → Reached most (andThen r f)
 then-reached (stopped r n) f most h g = h
 then-reached (got a n rest) f most h g = g a n rest h
 
-line-reached : (l : Line) (rule : Row → Option Refusal) → ((row : Row) → Named (rule row)) → (n : ℕ) (text : List ℕ) (most : ℕ) → n + length text ≤ most → Reached most (readLine l rule n text)
+line-reached : (l : Line) (rule : Row → Option Refusal) → ((row : Row) → Named (rule row)) → (n : ℕ) (text : List ℕ) (most : ℕ)
+    → n + length text ≤ most → Reached most (readLine l rule n text)
 unfolding readLine
 line-reached l rule named n text most h = here (judge l text) refl (judge-named l text)
   where
-    ruled : (o : Option Refusal) → Named o → (row : Row) (size : ℕ) → suc n + length (drop size text) ≤ most → Reached {A = Row} most (on o (got row (suc n) (drop size text)) (λ r. stopped r n))
+    ruled : (o : Option Refusal) → Named o → (row : Row) (size : ℕ) → suc n + length (drop size text) ≤ most
+        → Reached {A = Row} most (on o (got row (suc n) (drop size text)) (λ r. stopped r n))
     ruled none w row size k = k
     ruled (some r) w row size k = (w, omega arith)
 
@@ -94,29 +97,35 @@ line-reached l rule named n text most h = here (judge l text) refl (judge-named 
         let whole = ap length (judge-values l text row size e .whole) ∙ length-append (lineText l row) (drop size text) in
         ruled (rule row) (named row) row size (omega (arith, whole, line-length l row))
 
-rows-reached : (k : ℕ) (l : Line) (rule : Rule) → NamedRule rule → (seen : Sheet) (rows : List Row) (n : ℕ) (text : List ℕ) (most : ℕ) → n + length text ≤ most → Reached most (readRows k l rule seen rows n text)
+rows-reached : (k : ℕ) (l : Line) (rule : Rule) → NamedRule rule → (seen : Sheet) (rows : List Row) (n : ℕ) (text : List ℕ) (most : ℕ)
+    → n + length text ≤ most → Reached most (readRows k l rule seen rows n text)
 unfolding readRows
 rows-reached zero l rule named seen rows n text most h = h
 rows-reached (suc k) l rule named seen rows n text most h =
-    then-reached (readLine l (rule (seen ++ filled l rows)) n text) (λ row. readRows k l rule seen (rows ++ (row ∷ []))) most (line-reached l (rule (seen ++ filled l rows)) (named (seen ++ filled l rows)) n text most h)
+    then-reached (readLine l (rule (seen ++ filled l rows)) n text) (λ row. readRows k l rule seen (rows ++ (row ∷ []))) most
+    (line-reached l (rule (seen ++ filled l rows)) (named (seen ++ filled l rows)) n text most h)
     (λ row m rest g. rows-reached k l rule named seen (rows ++ (row ∷ [])) m rest most g)
 
 part-reached : (p : Part) → NamedPart p → (seen : Sheet) (n : ℕ) (text : List ℕ) (most : ℕ) → n + length text ≤ most → Reached most (readPart p seen n text)
 part-reached (one l rule) named seen n text most h =
-    then-reached (readRows 1 l rule seen [] n text) (λ rows m rest. got (seen ++ filled l rows) m rest) most (rows-reached 1 l rule named seen [] n text most h) (λ rows m rest g. g)
+    then-reached (readRows 1 l rule seen [] n text) (λ rows m rest. got (seen ++ filled l rows) m rest) most
+    (rows-reached 1 l rule named seen [] n text most h) (λ rows m rest g. g)
 part-reached (many key a b l rule) named seen n text most h =
     then-reached (readLine (countLine key a b) (λ row. none) n text) _ most (line-reached (countLine key a b) (λ row. none) (λ row. tt) n text most h)
     (λ count m rest g. then-reached (readRows (natAbs (getD (count .numbers) 0 (pos 0))) l rule seen [] m rest) (λ rows m′ rest′. got (seen ++ filled l rows) m′ rest′) most (rows-reached (natAbs (getD (count .numbers) 0 (pos 0))) l rule named seen [] m rest most g) (λ rows m′ rest′ g′. g′))
 
-parts-reached : (ps : List Part) → Every NamedPart ps → (seen : Sheet) (n : ℕ) (text : List ℕ) (most : ℕ) → n + length text ≤ most → Reached most (readParts ps seen n text)
+parts-reached : (ps : List Part) → Every NamedPart ps → (seen : Sheet) (n : ℕ) (text : List ℕ) (most : ℕ) → n + length text ≤ most
+    → Reached most (readParts ps seen n text)
 unfolding readParts
 parts-reached [] named seen n text most h = h
 parts-reached (p ∷ ps) named seen n text most h =
-    then-reached (readPart p seen n text) (λ sheet. readParts ps sheet) most (part-reached p (named .0) seen n text most h) (λ sheet m rest g. parts-reached ps (named .1) sheet m rest most g)
+    then-reached (readPart p seen n text) (λ sheet. readParts ps sheet) most (part-reached p (named .0) seen n text most h)
+    (λ sheet m rest g. parts-reached ps (named .1) sheet m rest most g)
 
 lines-reached : (d : Document) → NamedDocument d → (n : ℕ) (text : List ℕ) (most : ℕ) → n + length text ≤ most → Reached most (readLines d n text)
 lines-reached d named n text most h =
-    then-reached (readPart (d .first) [] n text) (λ top. readParts (d .below top) top) most (part-reached (d .first) (named .first) [] n text most h) (λ top m rest g. parts-reached (d .below top) (named .below top) top m rest most g)
+    then-reached (readPart (d .first) [] n text) (λ top. readParts (d .below top) top) most (part-reached (d .first) (named .first) [] n text most h)
+    (λ top m rest g. parts-reached (d .below top) (named .below top) top m rest most g)
 
 -- no refusal is number 0, and none names a line beyond the 16,385th
 pub record Refuses (x : Refusal) (n : ℕ) : Type 0 where
@@ -149,7 +158,9 @@ heard d named text = here (ltb 16384 (length text)) refl
 document-named : NamedDocument document
 document-named = record {
   first = λ seen row. tt;
-  below = λ seen. made-every (λ e. e .part) NamedPart (entriesOf (editionIn seen)) (every-imp (λ e h. h .named) (entriesOf (editionIn seen)) (sheets (editionIn seen) .groups .each .1));
+  below = λ seen.
+      let es = entriesOf (editionIn seen) in
+      made-every (λ e. e .part) NamedPart es (every-imp (λ e h. h .named) es (sheets (editionIn seen) .groups .each .1));
   whole = λ s. whole-asks (stagesIn s) (sectionsIn s) (wallsIn s) .named;
 }
 

@@ -28,7 +28,8 @@ unfolding pieces count
 pieces-last c [] e = refl
 pieces-last c (b ∷ p) e = here (eqb b c) (pieces-last c p) e
   where
-    here : (t : Bool) → (count p c ≡ 0 → pieces c p ≡ p ∷ []) → cond t (suc (count p c)) (count p c) ≡ 0 → cond t ([] ∷ pieces c p) (push b (pieces c p)) ≡ (b ∷ p) ∷ []
+    here : (t : Bool) → (count p c ≡ 0 → pieces c p ≡ p ∷ []) → cond t (suc (count p c)) (count p c) ≡ 0
+        → cond t ([] ∷ pieces c p) (push b (pieces c p)) ≡ (b ∷ p) ∷ []
     here true q z = absurd (omega arith)
     here false q z = rw (q z)
 
@@ -64,7 +65,8 @@ unfolding pieces count
 pieces-count c [] = refl
 pieces-count c (b ∷ v) = let s = pieces-some c v in here (eqb b c) (pieces c v) (s .0) (s .1) (s .2) (pieces-count c v)
   where
-    here : (t : Bool) (r : List (List ℕ)) (p : List ℕ) (ps : List (List ℕ)) → r ≡ p ∷ ps → length r ≡ count v c + 1 → length (cond t ([] ∷ r) (push b r)) ≡ cond t (suc (count v c)) (count v c) + 1
+    here : (t : Bool) (r : List (List ℕ)) (p : List ℕ) (ps : List (List ℕ)) → r ≡ p ∷ ps → length r ≡ count v c + 1
+        → length (cond t ([] ∷ r) (push b r)) ≡ cond t (suc (count v c)) (count v c) + 1
     here true r p ps q e = omega arith
     here false r p ps q e = rw q (rw q at e)
 
@@ -176,6 +178,7 @@ all-inside i [] (z ∷ zs) l e = absurd (omega arith)
 all-inside i (f ∷ fs) [] l e = absurd (omega arith)
 all-inside i (f ∷ fs) (z ∷ zs) l e = here (within f z) (all-inside (suc i) fs zs (omega arith)) e
   where
-    here : (t : Bool) → (outsideOf (suc i) fs zs ≡ none → inRanges fs zs ≡ true) → cond t (outsideOf (suc i) fs zs) (some i) ≡ none → (t && inRanges fs zs) ≡ true
+    here : (t : Bool) → (outsideOf (suc i) fs zs ≡ none → inRanges fs zs ≡ true) → cond t (outsideOf (suc i) fs zs) (some i) ≡ none
+        → (t && inRanges fs zs) ≡ true
     here true q e = q e
     here false q e = clash cc

@@ -56,7 +56,8 @@ stripped s (suc n) ws h =
 abbrev ReadIn : ℕ → List Wall → Section → Type 0
 ReadIn n ws r = (j : ℕ) → 1 ≤ j → j ≤ n → Some (Cell (r .number) (pos j)) ws
 
-still : (n : ℕ) (r : Section) (ws : List Wall) (a : Stripped (r .number) n ws) (rs : List Section) → Every (λ y. ¬ SameNumber y r) rs → Every (ReadIn n ws) rs → Every (ReadIn n (a .rest)) rs
+still : (n : ℕ) (r : Section) (ws : List Wall) (a : Stripped (r .number) n ws) (rs : List Section) → Every (λ y. ¬ SameNumber y r) rs
+    → Every (ReadIn n ws) rs → Every (ReadIn n (a .rest)) rs
 still n r ws a [] d h = tt
 still n r ws a (y ∷ rs) d h = (λ j p q. a .others (y .number) (pos j) (λ e. d .0 (sym e)) (h .0 j p q), still n r ws a rs (d .1) (h .1))
 
@@ -67,7 +68,8 @@ as-many n (r ∷ rs) ws d h =
     omega (arith, a .fewer, as-many n rs (a .rest) (d .1) (still n r ws a rs (d .0) (h .1)))
 
 -- 8 is always said where sections times stages pass 48
-pub readings-most : (text : List ℕ) (sheet : Sheet) → readOf document text ≡ Good sheet → length (firingOf sheet .sections) * length (firingOf sheet .stages) ≤ 48
+pub readings-most : (text : List ℕ) (sheet : Sheet) → readOf document text ≡ Good sheet
+    → length (firingOf sheet .sections) * length (firingOf sheet .stages) ≤ 48
 readings-most text sheet e =
     let r = rules-kept sheet (kept document text sheet e .keeps) in
     omega (arith, as-many (length (stagesIn sheet)) (sectionsIn sheet) (wallsIn sheet) (r .numbered) (r .read), firing-limits text sheet e .wallsMost)

@@ -130,10 +130,18 @@ pub material-asks : (i : ℕ) (seen : Sheet) (row : Row) → Asks (material-rule
 material-asks i seen row = here (same (pos 0) (at row i)) (same (pos 0) (at row (i + 1))) (tests-same (pos 0) (at row i)) (tests-same (pos 0) (at row (i + 1)))
   where
     here : (a b : Bool) → Tests a (pos 0 ≡ at row i) → Tests b (pos 0 ≡ at row (i + 1)) → Asks (when (alike a b) (Material (i + 1))) (MaterialKeeps i row)
-    here true true x y = record { to = λ e. clash cc; from = λ h. absurd (⊎-elim (λ p. p .1 (sym (y .yes refl))) (λ p. p .0 (sym (x .yes refl))) h); named = lit< tt }
+    here true true x y = record {
+      to = λ e. clash cc;
+      from = λ h. absurd (⊎-elim (λ p. p .1 (sym (y .yes refl))) (λ p. p .0 (sym (x .yes refl))) h);
+      named = lit< tt;
+    }
     here true false x y = record { to = λ e. inl (sym (x .yes refl), λ p. let z = y .back (sym p) in clash cc); from = λ h. refl; named = tt }
     here false true x y = record { to = λ e. inr (λ p. let z = x .back (sym p) in clash cc, sym (y .yes refl)); from = λ h. refl; named = tt }
-    here false false x y = record { to = λ e. clash cc; from = λ h. ⊎-elim (λ p. let z = x .back (sym (p .0)) in clash cc) (λ p. let z = y .back (sym (p .1)) in clash cc) h; named = lit< tt }
+    here false false x y = record {
+      to = λ e. clash cc;
+      from = λ h. ⊎-elim (λ p. let z = x .back (sym (p .0)) in clash cc) (λ p. let z = y .back (sym (p .1)) in clash cc) h;
+      named = lit< tt;
+    }
 
 pub gas-asks : (seen : Sheet) (row : Row) → Asks (gas-rule seen row) (GasKeeps row)
 gas-asks seen row = asks Shares (lit< tt) (tests-and (tests-same (sumOf (row .numbers)) (pos 10000)) (tests-lt (pos 0) (weigh airWeights (row .numbers))))
@@ -166,7 +174,9 @@ module _ (stages : List Stage) (sections : List Section) (above : List Wall) (w 
   colder = tests-lt (w .surface) (w .air)
 
   pub wall-asks : Asks (wallFault stages sections above w) (WallKeeps stages sections above w)
-  wall-asks = asks-else (asks NoSuchWall (lit< tt) listed) (asks-else (asks-not NoSuchWall (lit< tt) beyond) (asks-else (asks-not ReadTwice (lit< tt) again) (asks-not Colder (lit< tt) colder)))
+  wall-asks =
+      asks-else (asks NoSuchWall (lit< tt) listed)
+      (asks-else (asks-not NoSuchWall (lit< tt) beyond) (asks-else (asks-not ReadTwice (lit< tt) again) (asks-not Colder (lit< tt) colder)))
 
   pub unlisted-heard : ¬ Listed sections w → wallFault stages sections above w ≡ some NoSuchWall
   unlisted-heard n = rw (tests-no listed n)

@@ -22,7 +22,8 @@ use Rattle.lines.proofs.Blocks.{countOf}
 number-most : (f : Field) (z : ℤ) → nine f ≡ true → within f z ≡ true → length (decimal z) ≤ 10
 number-most f z n h = sheet-width z (within-small f z n h)
 
-joined-most : (fs : List Field) (zs : List ℤ) → nines fs ≡ true → inRanges fs zs ≡ true → 0 < length fs → suc (length (joined (map decimal zs))) ≤ 11 * length fs
+joined-most : (fs : List Field) (zs : List ℤ) → nines fs ≡ true → inRanges fs zs ≡ true → 0 < length fs
+    → suc (length (joined (map decimal zs))) ≤ 11 * length fs
 unfolding joined inRanges
 joined-most [] zs n h p = absurd (omega arith)
 joined-most (f ∷ fs) [] n h p = clash cc
@@ -42,7 +43,8 @@ line-most l row s h =
     let r = joined-most (l .fields) (row .numbers) (a .digits) (is-fit l row h .inside) (a .some) in
     omega (arith, r, line-length l row, length-append (l .key) (61 ∷ joined (map decimal (row .numbers))))
 
-rows-most : (l : Line) (rule : Rule) (seen : Sheet) (above rows : List Row) → sound l ≡ true → RowsKeep l rule seen above rows → length (rowsText l rows) ≤ length rows * lineSize l
+rows-most : (l : Line) (rule : Rule) (seen : Sheet) (above rows : List Row) → sound l ≡ true → RowsKeep l rule seen above rows
+    → length (rowsText l rows) ≤ length rows * lineSize l
 unfolding rowsText
 rows-most l rule seen above [] s h = omega arith
 rows-most l rule seen above (row ∷ rows) s h =
@@ -64,7 +66,8 @@ part-most (many key a b l rule) seen f s h =
     let t = both (sound (countLine key a b)) (sound l) s in
     let c = line-most (countLine key a b) (countOf (f .rows)) (t .0) (h .1) in
     let m : length (f .rows) * lineSize l ≤ b * lineSize l = mul-le-mul-right (lineSize l) (count-most key a b (f .rows) (h .1)) in
-    omega (arith, c, rows-most l rule seen [] (f .rows) (t .1) (h .2), m, length-append (lineText (countLine key a b) (countOf (f .rows))) (rowsText l (f .rows)))
+    omega
+    (arith, c, rows-most l rule seen [] (f .rows) (t .1) (h .2), m, length-append (lineText (countLine key a b) (countOf (f .rows))) (rowsText l (f .rows)))
 
 parts-most : (ps : List Part) (seen sheet : Sheet) → soundParts ps ≡ true → PartsKeep ps seen sheet → length (sheetText ps sheet) ≤ partsSize ps
 unfolding sheetText

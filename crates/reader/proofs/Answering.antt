@@ -38,15 +38,18 @@ map-twice g f (x ∷ l) = ap (λ y. g (f x) ∷ y) (map-twice g f l)
 -- rule 10's sum, and rule 8's test, by the struct
 gas-same : {x : Sheetˢ} {sheet : Sheet} → Held x sheet → sumOf (map (λ y. y .gas) (stagesIn sheet)) ≡ gasOf x
 gas-same {x} {sheet} h =
-    ap sumOf (ap (λ (f : Firing). map (λ (y : Stage). y .gas) (f .stages)) (h .shows .lines) ∙ map-twice (λ (y : Stage). y .gas) stage (take (x .stages .count .0) (x .stages .lines)))
+    let shown = ap (λ (f : Firing). map (λ (y : Stage). y .gas) (f .stages)) (h .shows .lines) in
+    ap sumOf (shown ∙ map-twice (λ (y : Stage). y .gas) stage (take (x .stages .count .0) (x .stages .lines)))
 
 read-same : {x : Sheetˢ} {sheet : Sheet} → Held x sheet → Sized x
-    → all (λ y. all (isRead (wallsIn sheet) (y .number)) (counted (length (stagesIn sheet)))) (sectionsIn sheet) ≡ allRead (x .readings) (x .sections .count .0) (x .stages .count .0)
+    → all (λ y. all (isRead (wallsIn sheet) (y .number)) (counted (length (stagesIn sheet)))) (sectionsIn sheet) ≡ allRead (x .readings)
+    (x .sections .count .0) (x .stages .count .0)
 read-same {x} {sheet} h z =
     let few : length (sectionsIn sheet) ≤ 12 = omega (arith, h .sectionsAre, z .sections) in
     let short : length (stagesIn sheet) ≤ 12 = omega (arith, h .stagesAre, z .stages) in
     missing-is sheet few (h .placed) short (h .distinct)
-    ∙ ap (λ (c : List Reading). allRead c (length (sectionsIn sheet)) (length (stagesIn sheet))) (sym (h .shows .readings)) ∙ ap₂ (allRead (x .readings)) (h .sectionsAre) (h .stagesAre)
+    ∙ ap (λ (c : List Reading). allRead c (length (sectionsIn sheet)) (length (stagesIn sheet))) (sym (h .shows .readings))
+    ∙ ap₂ (allRead (x .readings)) (h .sectionsAre) (h .stagesAre)
 
 module _ {x : Sheetˢ} {sheet : Sheet} (h : Held x sheet) (z : Sized x) (q : Place) (sound : q .kind ≡ 0) where
   abbrev said-of : Bool → Bool → Answer
@@ -61,7 +64,8 @@ module _ {x : Sheetˢ} {sheet : Sheet} (h : Held x sheet) (z : Sized x) (q : Pla
   whole-judged =
       let gas = ap (within gasTotal) (gas-same h) in
       let read = read-same h z in
-      subst (λ (a : Answer). Judged a (record { place = wholeAs q x; sheet = x })) (sym (ap₂ said-of gas read)) (rules (within gasTotal (gasOf x)) (allRead (x .readings) (x .sections .count .0) (x .stages .count .0)))
+      subst (λ (a : Answer). Judged a (record { place = wholeAs q x; sheet = x })) (sym (ap₂ said-of gas read))
+      (rules (within gasTotal (gasOf x)) (allRead (x .readings) (x .sections .count .0) (x .stages .count .0)))
 
 module _ (s : List ℕ) (q : Place) (x : Sheetˢ) (z : Sized x) where
   -- the rules of the whole sheet, after the lines
@@ -113,7 +117,8 @@ module _ (n : ℕ) (p : Place) (e : p ≡ openingAs n) where
   looked-none h f = let long = opened-long h in record { inside = omega arith; few = omega arith; whole = λ g. absurd (omega arith) }
 
 -- THE JUDGEMENT: t is what was looked at, all that a sheet of good length has
-module _ (s t : List ℕ) (all-of-it : length s ≤ 16384 → t ≡ s) (q : Place) (x : Sheetˢ) (after : After t (openingAs (length s)) (readLines document) q (Held x)) (z : Sized x) where
+module _ (s t : List ℕ) (all-of-it : length s ≤ 16384 → t ≡ s) (q : Place) (x : Sheetˢ)
+    (after : After t (openingAs (length s)) (readLines document) q (Held x)) (z : Sized x) where
   abbrev found : Lines
   found = record { place = verdictAs (length s) q x; sheet = x }
 
@@ -129,7 +134,8 @@ module _ (s t : List ℕ) (all-of-it : length s ≤ 16384 → t ≡ s) (q : Plac
   of-good-length e =
       let opened : openingAs (length s) ≡ top = rw e in
       let same = all-of-it (ltb-false 16384 (length s) e) in
-      let m : Meets s (readLines document 1 s) q (Held x) = subst (λ (u : List ℕ). Meets u (readLines document 1 u) q (Held x)) same (subst (λ (p : Place). After t p (readLines document) q (Held x)) opened after .reads refl) in
+      let read = subst (λ (p : Place). After t p (readLines document) q (Held x)) opened after .reads refl in
+      let m : Meets s (readLines document 1 s) q (Held x) = subst (λ (u : List ℕ). Meets u (readLines document 1 u) q (Held x)) same read in
       rw e (lines-judged s q x z (readLines document 1 s) m)
 
   pub judgement : Judged (readOf document s) found
@@ -140,14 +146,16 @@ module _ (s t : List ℕ) (all-of-it : length s ≤ 16384 → t ≡ s) (q : Plac
       here false e = of-good-length e
 
 -- THE ANSWER from it
-pub answer-refused : (s : List ℕ) (r : Lines) → Judged (readOf document s) r → good (r .place) ≡ false → Answers (readOf document s) (rejectedAs (reason (r .place)) (r .place .line))
+pub answer-refused : (s : List ℕ) (r : Lines) → Judged (readOf document s) r → good (r .place) ≡ false
+    → Answers (readOf document s) (rejectedAs (reason (r .place)) (r .place .line))
 answer-refused s r h e = here (readOf document s) h
   where
     here : (a : Answer) → Judged a r → Answers a (rejectedAs (reason (r .place)) (r .place .line))
     here (Refused x n) k = ap (λ (p : Place). rejectedAs (reason p) (p .line)) k ∙ ap (λ (y : Refusal). rejectedAs y n) (refused-why x n)
     here (Good sheet) k = not-both (good (r .place)) (is-good (r .place) (k .0)) e
 
-pub answer-good : (s : List ℕ) (r : Lines) → Judged (readOf document s) r → good (r .place) ≡ true → Answers (readOf document s) (record { accepted = true; refusal = Accepted; line = 0; sheet = r .sheet })
+pub answer-good : (s : List ℕ) (r : Lines) → Judged (readOf document s) r → good (r .place) ≡ true
+    → Answers (readOf document s) (record { accepted = true; refusal = Accepted; line = 0; sheet = r .sheet })
 answer-good s r h e = here (readOf document s) h
   where
     here : (a : Answer) → Judged a r → Answers a (record { accepted = true; refusal = Accepted; line = 0; sheet = r .sheet })
@@ -179,7 +187,8 @@ pub firm-limits : {s : List ℕ} {x : Sheetˢ} (a : Firm s x) → Limits (firing
 firm-limits {s} a = firing-limits s (a .sheet) (a .good)
 
 -- A REFUSED SHEET: document 01's refusal and line are those that the code finds
-pub refused-judged : (s : List ℕ) (r : Lines) → Judged (readOf document s) r → good (r .place) ≡ false → readOf document s ≡ Refused (reason (r .place)) (r .place .line)
+pub refused-judged : (s : List ℕ) (r : Lines) → Judged (readOf document s) r → good (r .place) ≡ false
+    → readOf document s ≡ Refused (reason (r .place)) (r .place .line)
 refused-judged s r h e = here (readOf document s) h
   where
     here : (a : Answer) → Judged a r → a ≡ Refused (reason (r .place)) (r .place .line)

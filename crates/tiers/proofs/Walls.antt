@@ -69,16 +69,19 @@ ruling-at S k cells x = rulingOf (ltb (before (x .section) S) (length S)) (leb (
 abbrev pub rule-on : List Section → ℕ → List Reading → Wallˢ → Ruling
 rule-on S k cells w = rulingOf (ltb (before (pos (w .section .0)) S) (length S)) (leb (w .stage .0) k) (readAt cells (cell S (wall w))) (ltZ (w .surface .0) (w .air .0))
 
-agree : {S S′ : List Section} {k k′ : ℕ} {c c′ : List Reading} {x x′ : Wall} → S ≡ S′ → k ≡ k′ → c ≡ c′ → x ≡ x′ → said (ruling-at S k c x) ≡ said (ruling-at S′ k′ c′ x′)
+agree : {S S′ : List Section} {k k′ : ℕ} {c c′ : List Reading} {x x′ : Wall} → S ≡ S′ → k ≡ k′ → c ≡ c′ → x ≡ x′
+    → said (ruling-at S k c x) ≡ said (ruling-at S′ k′ c′ x′)
 agree p q r t = rw (p, q, r, t)
 
-pub unbroken-place : (S : List Section) (k : ℕ) (cells : List Reading) (w : Wallˢ) → rule-on S k cells w .broken ≡ false → before (pos (w .section .0)) S < length S
+pub unbroken-place : (S : List Section) (k : ℕ) (cells : List Reading) (w : Wallˢ) → rule-on S k cells w .broken ≡ false
+    → before (pos (w .section .0)) S < length S
 unbroken-place S k cells w e = ltb-true (before (pos (w .section .0)) S) (length S) (unbroken-listed _ _ _ _ e)
 
 settled-passes : {s : List ℕ} (q : Place) (l : WallLine) (r : Ruling) → WallAfter s q l → good q ≡ false → settled (q .line) (l .place) r ≡ q
 settled-passes q l r b h = let e = b .after .passes h in not-good (q .line) (l .place) (r .why) (good (l .place)) (r .broken) (ap (λ (y : Place). good y) e ∙ h) ∙ e
 
-pub settled-fair : {s : List ℕ} (q : Place) (l : WallLine) (r : Ruling) → WallAfter s q l → good (settled (q .line) (l .place) r) ≡ true → Fair s (settled (q .line) (l .place) r)
+pub settled-fair : {s : List ℕ} (q : Place) (l : WallLine) (r : Ruling) → WallAfter s q l → good (settled (q .line) (l .place) r) ≡ true
+    → Fair s (settled (q .line) (l .place) r)
 settled-fair {s} q l r b = good-test (q .line) (l .place) (r .why) s (good (l .place) && r .broken) (b .after .fair)
 
 module _ (s : List ℕ) (S : List Section) (k : ℕ) (few : length S ≤ 12) (seen : Sheet) (none-yet : lacks (bytes "wall") seen ≡ true) (above : sectionsIn seen ≡ S) (so-many : length (stagesIn seen) ≡ k) where
@@ -86,7 +89,8 @@ module _ (s : List ℕ) (S : List Section) (k : ℕ) (few : length S ≤ 12) (se
   stage-in w l m = record { low = record { le = le→leb 1 (w .stage .0) l }; high = record { le = le→leb (w .stage .0) 12 m } }
 
   -- document 01's rule at a row that the code has read as w, with the rows above it
-  rule-is : (cells : List Reading) (rows : List Row) (w : Wallˢ) (row : Row) → WallsShown S cells rows → 1 ≤ w .stage .0 → w .stage .0 ≤ 12 → wall w ≡ wallOf row
+  rule-is : (cells : List Reading) (rows : List Row) (w : Wallˢ) (row : Row) → WallsShown S cells rows → 1 ≤ w .stage .0 → w .stage .0 ≤ 12
+      → wall w ≡ wallOf row
       → wall-rule (seen ++ filled wallLine rows) row ≡ said (rule-on S k cells w)
   rule-is cells rows w row shown l m e =
       let here = seen ++ filled wallLine rows in
@@ -100,7 +104,8 @@ module _ (s : List ℕ) (S : List Section) (k : ℕ) (few : length S ≤ 12) (se
       let staged : In stageNumber (wallOf row .stage) = subst (λ (x : Wall). In stageNumber (x .stage)) e (stage-in w l m) in
       wall-rule-is here few′ ps row staged ∙ agree S-is k-is cells-are (sym e)
 
-  wall-shown : (cells : List Reading) (rows : List Row) (w : Wallˢ) (row : Row) → WallsShown S cells rows → 1 ≤ w .stage .0 → w .stage .0 ≤ 12 → wall w ≡ wallOf row
+  wall-shown : (cells : List Reading) (rows : List Row) (w : Wallˢ) (row : Row) → WallsShown S cells rows → 1 ≤ w .stage .0 → w .stage .0 ≤ 12
+      → wall w ≡ wallOf row
       → rule-on S k cells w .broken ≡ false → WallsShown S (set cells (cell S (wall w)) (reading (wall w))) (rows ++ (row ∷ []))
   wall-shown cells rows w row shown l m e f =
       let one = map-append wallOf rows (row ∷ []) in
@@ -125,7 +130,8 @@ module _ (s : List ℕ) (S : List Section) (k : ℕ) (few : length S ≤ 12) (se
       (ruled-after s q (l .place) wallLine P rule (r .broken) (r .why) (λ row e. rule-is cells rows w row shown (b .least) (b .most) e) (b .after))
 
   -- where the line was refused the cells stay as they were, and of what was read nothing is said
-  pub next : (p q : Place) (l : WallLine) (i : ℕ) (cells cells′ : List Reading) → After s p (readRows i wallLine wall-rule seen []) q (WallsShown S cells) → WallAfter s q l
+  pub next : (p q : Place) (l : WallLine) (i : ℕ) (cells cells′ : List Reading)
+      → After s p (readRows i wallLine wall-rule seen []) q (WallsShown S cells) → WallAfter s q l
       → (good (settled (q .line) (l .place) (rule-on S k cells (l .wall))) ≡ true → cells′ ≡ set cells (cell S (wall (l .wall))) (reading (wall (l .wall))))
       → After s p (readRows (i + 1) wallLine wall-rule seen []) (settled (q .line) (l .place) (rule-on S k cells (l .wall))) (WallsShown S cells′)
   next p q l i cells cells′ a b same =
@@ -137,7 +143,8 @@ module _ (s : List ℕ) (S : List Section) (k : ℕ) (few : length S ≤ 12) (se
       either (good q′) refl done
     where
       either : (t : Bool) → good (settled (q .line) (l .place) (rule-on S k cells (l .wall))) ≡ t
-          → After s p (readRows (i + 1) wallLine wall-rule seen []) (settled (q .line) (l .place) (rule-on S k cells (l .wall))) (WallsShown S (set cells (cell S (wall (l .wall))) (reading (wall (l .wall)))))
+          → After s p (readRows (i + 1) wallLine wall-rule seen []) (settled (q .line) (l .place) (rule-on S k cells (l .wall)))
+          (WallsShown S (set cells (cell S (wall (l .wall))) (reading (wall (l .wall)))))
           → After s p (readRows (i + 1) wallLine wall-rule seen []) (settled (q .line) (l .place) (rule-on S k cells (l .wall))) (WallsShown S cells′)
       either true e x = rw (same e) x
       either false e x = after-refused s p (settled (q .line) (l .place) (rule-on S k cells (l .wall))) (readRows (i + 1) wallLine wall-rule seen []) _ (WallsShown S cells′) e x

@@ -38,7 +38,9 @@ twice S row = when (ltb (before (sectionOf row .number) S) (length S)) SectionTw
 -- a section line and its rule, by any sections above it that have these numbers
 abbrev pub NewSection : List ℕ → Place → List ℕ → ℕ → SectionLine → Type 0
 NewSection s p above i r =
-    (lines : List Sectionˢ) → above ≡ numbers lines → After s p (readLine sectionLine (twice (map section (take i lines)))) (r .place) (λ row. (section (r .section) ≡ sectionOf row) × (twice (map section (take i lines)) row ≡ none))
+    (lines : List Sectionˢ) → above ≡ numbers lines
+    → let rule = twice (map section (take i lines)) in
+    After s p (readLine sectionLine rule) (r .place) (λ row. (section (r .section) ≡ sectionOf row) × (rule row ≡ none))
 
 -- no line with this key has been read
 abbrev pub lacks : List ℕ → Sheet → Bool
@@ -51,7 +53,8 @@ pub record SectionsShown (k : ℕ) (lines : List Sectionˢ) (rows : List Row) : 
   pub distinct : Distinct (map sectionOf rows)
 
 abbrev pub SectionsAfter : List ℕ → Place → ℕ → Place → List Sectionˢ → Type 0
-SectionsAfter s p k q lines = (seen : Sheet) → lacks (bytes "section") seen ≡ true → After s p (readRows k sectionLine section-rule seen []) q (SectionsShown k lines)
+SectionsAfter s p k q lines =
+    (seen : Sheet) → lacks (bytes "section") seen ≡ true → After s p (readRows k sectionLine section-rule seen []) q (SectionsShown k lines)
 
 -- a wall line before its rules; whatever it said, its stage is one of twelve
 pub record WallAfter (s : List ℕ) (p : Place) (r : WallLine) : Type 0 where
@@ -66,7 +69,8 @@ pub record WallsShown (S : List Section) (cells : List Reading) (rows : List Row
 
 abbrev pub WallsAfter : List ℕ → Place → ℕ → List Section → ℕ → Place → List Reading → Type 0
 WallsAfter s p n S k q cells =
-    (seen : Sheet) → lacks (bytes "wall") seen ≡ true → sectionsIn seen ≡ S → length (stagesIn seen) ≡ k → After s p (readRows n wallLine wall-rule seen []) q (WallsShown S cells)
+    (seen : Sheet) → lacks (bytes "wall") seen ≡ true → sectionsIn seen ≡ S → length (stagesIn seen) ≡ k
+    → After s p (readRows n wallLine wall-rule seen []) q (WallsShown S cells)
 
 -- a wall line's place, once its rules are looked at
 abbrev pub settled : ℕ → Place → Ruling → Place

@@ -64,7 +64,8 @@ module _ (S : List Section) (ws : List Wall) (few : length S ≤ 12) (ps : Every
 
   pub wall-fault-is :
       (stages : List Stage) →
-      wallFault stages S ws w ≡ said (rulingOf (ltb (before (w .section) S) (length S)) (leb (natAbs (w .stage)) (length stages)) read (ltZ (w .surface) (w .air)))
+      wallFault stages S ws w ≡ said
+      (rulingOf (ltb (before (w .section) S) (length S)) (leb (natAbs (w .stage)) (length stages)) read (ltZ (w .surface) (w .air)))
   wall-fault-is stages =
       rw (before-is (w .section) S, beyond (length stages) (w .stage) staged)
       (cell-above (ltb (before (w .section) S) (length S)) (leb (natAbs (w .stage)) (length stages)) (ltZ (w .surface) (w .air)) refl)

@@ -22,7 +22,9 @@ returns c =
     let l = c .before .before .part-rows in
     let n = c .before .before .before .before .before .part-count in
     let a = c .before .before .before .before .before .before .before .args in
-    λ seen. many-after (a .s .now) partLine (material-rule 1) seen (a .p) (n .result .place) (l .result .place) (Filled part partOf blankPart 32 (n .result .count .0) (l .result .lines)) (bytes "parts") 0 32 (n .result .count .0) (count-after (n .ensures)) (l .ensures seen)
+    λ seen. many-after (a .s .now) partLine (material-rule 1) seen (a .p) (n .result .place) (l .result .place)
+    (Filled part partOf blankPart 32 (n .result .count .0) (l .result .lines)) (bytes "parts") 0 32 (n .result .count .0) (count-after (n .ensures))
+    (l .ensures seen)
 
 pub parts-part-spec : {M : Type 1} → statement M
 parts-part-spec = tie.close (tie.spec (λ c κs. search needs) part-rows-requires returns)

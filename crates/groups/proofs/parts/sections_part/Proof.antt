@@ -19,7 +19,13 @@ returns c =
     let l = c .before .before .section-rows in
     let n = c .before .before .before .before .before .section-count in
     let a = c .before .before .before .before .before .before .before .args in
-    record { after = λ seen e. many-after (a .s .now) sectionLine section-rule seen (a .p) (n .result .place) (l .result .place) (SectionsShown (n .result .count .0) (l .result .lines)) (bytes "sections") 1 12 (n .result .count .0) (count-after (n .ensures)) (l .ensures seen e); within = n .ensures .within }
+    let Rows = SectionsShown (n .result .count .0) (l .result .lines) in
+    record {
+      after = λ seen e.
+          many-after (a .s .now) sectionLine section-rule seen (a .p) (n .result .place) (l .result .place) Rows (bytes "sections") 1 12 (n .result .count .0)
+          (count-after (n .ensures)) (l .ensures seen e);
+      within = n .ensures .within;
+    }
 
 pub sections-part-spec : {M : Type 1} → statement M
 sections-part-spec = tie.close (tie.spec (λ c κs. search needs) section-rows-requires returns)

@@ -22,7 +22,9 @@ returns c =
     let l = c .before .before .setter-rows in
     let n = c .before .before .before .before .before .setter-count in
     let a = c .before .before .before .before .before .before .before .args in
-    λ seen. many-after (a .s .now) setterLine (material-rule 2) seen (a .p) (n .result .place) (l .result .place) (Filled setter setterOf blankSetter 32 (n .result .count .0) (l .result .lines)) (bytes "setters") 0 32 (n .result .count .0) (count-after (n .ensures)) (l .ensures seen)
+    λ seen. many-after (a .s .now) setterLine (material-rule 2) seen (a .p) (n .result .place) (l .result .place)
+    (Filled setter setterOf blankSetter 32 (n .result .count .0) (l .result .lines)) (bytes "setters") 0 32 (n .result .count .0)
+    (count-after (n .ensures)) (l .ensures seen)
 
 pub setters-part-spec : {M : Type 1} → statement M
 setters-part-spec = tie.close (tie.spec (λ c κs. search needs) setter-rows-requires returns)

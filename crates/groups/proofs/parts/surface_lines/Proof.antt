@@ -36,7 +36,8 @@ returns c =
     let last = walls-pass (a .s .now) q S (a .stages) (w .result) (w .ensures) in
     record {
       after = λ seen b.
-          part-then (a .p) q q′ (sections .part) sectionLine (SectionRows (d .result .sections)) (walls .part ∷ []) (saysAll wallLine Walls ∷ []) seen (d .ensures .after seen (b .sections))
+          part-then (a .p) q q′ (sections .part) sectionLine (SectionRows (d .result .sections)) (walls .part ∷ []) (saysAll wallLine Walls ∷ []) seen
+          (d .ensures .after seen (b .sections))
           (λ rows h.
           (let t = seen ++ filled sectionLine rows in
           part-then q q′ q′ (walls .part) wallLine Walls [] [] t

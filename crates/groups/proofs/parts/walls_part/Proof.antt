@@ -23,7 +23,8 @@ returns c seen e f g =
     let n = c .before .before .before .before .before .wall-count in
     let a = c .before .before .before .before .before .before .before .args in
     let S = map section (take (a .sections .count .0) (a .sections .lines)) in
-    many-after (a .s .now) wallLine wall-rule seen (a .p) (n .result .place) (l .result .place) (WallsShown S (l .result .readings)) (bytes "walls") 0 48 (n .result .count .0) (count-after (n .ensures)) (l .ensures seen e f g)
+    many-after (a .s .now) wallLine wall-rule seen (a .p) (n .result .place) (l .result .place) (WallsShown S (l .result .readings))
+    (bytes "walls") 0 48 (n .result .count .0) (count-after (n .ensures)) (l .ensures seen e f g)
 
 pub walls-part-spec : {M : Type 1} → statement M
 walls-part-spec = tie.close (tie.spec (λ c κs. search needs) wall-rows-requires returns)
