@@ -3,8 +3,9 @@
 pub mod block;
 pub mod rounding;
 
-// A line of table A.2: a + b T, with a in 0.01 and b in 1e-6 kJ/(kg·°C).
+// A line of table A.2: a + b T, with a in 0.01 and b in 1e-6 kJ/(kg·°C). It is kept in 32 bits, as the whole table is laid out where a line is
+// asked for (docs/DECISIONS.md, "A quantity is kept in 32 bits and counted with in 64").
 pub struct Line {
-    pub a: i64,
-    pub b: i64,
+    pub a: i32,
+    pub b: i32,
 }

@@ -68,7 +68,7 @@ fn straight(line: Line, at: Degrees) -> Capacity
     requires { ⌜ StraightFits (line .a) (line .b) (at .0) ⌝ }
     ensures { λ r. ⌜ r .0 ≡ line .a *ℤ pos 100000 +ℤ line .b *ℤ at .0 ⌝ }
 {
-    Capacity(line.a * 100_000 + line.b * at.0 as i64)
+    Capacity(line.a as i64 * 100_000 + line.b as i64 * at.0 as i64)
 }
 
 // The specific heat that the sheet gives.
