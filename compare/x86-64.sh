@@ -1,20 +1,7 @@
 # For scripts of bash to read: what makes and runs a program for x86-64, for which alone the library is made.
-# It sets `compiler` and `runner`, and brings `install`, for a machine that lacks something. The script sets `built` before.
+# It sets `compiler` and `runner`, and brings `install` (install.sh). The script sets `built` before.
 
-# Debian's packages. Fetching them needs root, so another user hears their names.
-install() {
-    if [ "$(id -u)" != 0 ] || ! command -v apt-get >/dev/null; then
-        printf '%s: these packages are missing: %s\n' "$0" "$*" >&2
-        exit 2
-    fi
-    printf '%s: installing %s\n' "$0" "$*" >&2
-    local apt=(env DEBIAN_FRONTEND=noninteractive apt-get install -y --no-install-recommends "$@")
-    # a fresh machine has no list of packages yet
-    "${apt[@]}" >"$built/apt.log" 2>&1 || { apt-get update && "${apt[@]}"; } >"$built/apt.log" 2>&1 || {
-        cat "$built/apt.log" >&2
-        exit 2
-    }
-}
+. compare/install.sh
 
 if [ "$(uname -m)" = x86_64 ]; then
     compiler=gcc
@@ -31,4 +18,3 @@ else
     # take byte by byte, and all is ten times as slow.
     runner=("$kit/on/$(uname -m)/toolchain/bin/qemu-x86_64" -cpu qemu64 -L "$root")
 fi
-command -v cargo >/dev/null || install cargo

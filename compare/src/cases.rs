@@ -4,9 +4,10 @@ use crate::dice::Dice;
 use crate::draft::{fields, span, Draft};
 use crate::faults::{self, FAULTS, OF_WALLS, WHOLE};
 use crate::valid::{self, Pin, Style};
-use crate::{forms, halves, inner};
+use crate::{forms, halves, inner, streams};
 use second::limits::LONGEST;
 use std::path::{Path, PathBuf};
+use std::{fs, io};
 
 /// A sheet and the room that is lent for its report.
 #[derive(Clone)]
@@ -24,12 +25,12 @@ type Make = fn(&Source, u64, &mut Dice) -> Vec<u8>;
 
 struct Kind {
     name: &'static str,
-    /// Of 64 sheets so many are of this kind.
+    /// Of 64 sheets so many are of this kind. The others come only where they are asked for by name.
     often: usize,
     make: Make,
 }
 
-const KINDS: [Kind; 19] = [
+const KINDS: [Kind; 26] = [
     Kind { name: "usual", often: 16, make: |_, _, dice| usual(dice).bytes() },
     Kind { name: "wild", often: 7, make: |_, _, dice| wild(dice).bytes() },
     Kind { name: "corner", often: 2, make: |_, _, dice| corner(dice).bytes() },
@@ -47,9 +48,19 @@ const KINDS: [Kind; 19] = [
     Kind { name: "printed at a half", often: 2, make: |_, step, dice| halves::printed(step, dice).bytes() },
     Kind { name: "rounded at a half", often: 1, make: |_, step, dice| inner::rounded(step, dice).bytes() },
     Kind { name: "efficiency at a half", often: 1, make: |_, step, dice| halves::efficiency(step, dice).bytes() },
-    Kind { name: "room", often: 1, make: |source, step, _| source.base("room", step / ROOMS, usual) },
+    Kind { name: "room", often: 1, make: |source, step, _| source.base("room", step / ROOMS, usual).bytes() },
     Kind { name: "unchanged example", often: 1, make: example },
+    Kind { name: "beside a limit", often: 0, make: beside_limit },
+    Kind { name: "byte gone", often: 0, make: byte_gone },
+    Kind { name: "damaged", often: 0, make: damaged },
+    Kind { name: "grown", often: 0, make: |_, step, _| streams::grown(step).bytes() },
+    Kind { name: "hostile", often: 0, make: |_, step, _| streams::hostile(step).1 },
+    Kind { name: "typical", often: 0, make: |_, _, dice| streams::typical(dice).bytes() },
+    Kind { name: "wide", often: 0, make: |_, _, dice| streams::wide(dice).bytes() },
 ];
+
+/// The name of all kinds together, in the turns of the wheel.
+const MADE: &str = "made";
 
 const WHEEL: usize = 64;
 
@@ -67,7 +78,15 @@ pub struct Source {
 }
 
 impl Source {
-    pub fn new(seed: u64, examples: Vec<Vec<u8>>) -> Source {
+    /// For a program that is started at the top of the repository. The examples go by name, lest their order hang on the file system.
+    pub fn at_the_top(seed: u64) -> io::Result<Source> {
+        let mut paths = fs::read_dir("examples")?.map(|entry| Ok(entry?.path())).collect::<io::Result<Vec<_>>>()?;
+        paths.retain(|path| path.extension().map_or(false, |kind| kind == "sheet"));
+        paths.sort();
+        Ok(Source::new(seed, paths.iter().map(fs::read).collect::<io::Result<_>>()?))
+    }
+
+    fn new(seed: u64, examples: Vec<Vec<u8>>) -> Source {
         let mut wheel = Vec::new();
         for (place, kind) in KINDS.iter().enumerate() {
             wheel.extend(std::iter::repeat(place).take(kind.often));
@@ -92,11 +111,25 @@ impl Source {
         Case { number, kind: kind.name, sheet, room, file: None }
     }
 
-    /// A sheet that several cases start from.
-    fn base(&self, purpose: &str, step: u64, make: fn(&mut Dice) -> Draft) -> Vec<u8> {
-        let name = purpose.bytes().fold(0, |sum: u64, byte| sum * 256 + u64::from(byte));
-        make(&mut Dice::new(self.seed, name, step)).bytes()
+    /// The sheet of this step of a kind, in whatever room. None where there is no such kind.
+    pub fn sheet(&self, kind: &str, step: u64) -> Option<Vec<u8>> {
+        if kind == MADE {
+            return Some(self.case(step).sheet);
+        }
+        let place = KINDS.iter().position(|other| other.name == kind)?;
+        Some((KINDS[place].make)(self, step, &mut Dice::new(self.seed, place as u64, step)))
     }
+
+    /// A sheet that several cases start from.
+    fn base(&self, purpose: &str, step: u64, make: fn(&mut Dice) -> Draft) -> Draft {
+        let name = purpose.bytes().fold(0, |sum: u64, byte| sum * 256 + u64::from(byte));
+        make(&mut Dice::new(self.seed, name, step))
+    }
+}
+
+/// The names of all kinds.
+pub fn names() -> Vec<&'static str> {
+    std::iter::once(MADE).chain(KINDS.iter().map(|kind| kind.name)).collect()
 }
 
 /// A sheet that lies in a file, in every room that may show something of it.
@@ -184,6 +217,21 @@ fn beyond_limit(_: &Source, step: u64, dice: &mut Dice) -> Vec<u8> {
     valid::draft(dice, Style::Plain, size, Some(Pin { key, field, value })).bytes()
 }
 
+/// One sheet, with each field in turn at its limits and one beyond them, in the first line of its kind and in the last: a block's
+/// first and last line may be judged apart. What else the number breaks is not looked at.
+fn beside_limit(source: &Source, step: u64, _: &mut Dice) -> Vec<u8> {
+    let mut draft = source.base("beside", 0, two_of_each);
+    let ends = draft.ends();
+    let (place, field) = ends[step as usize % ends.len()];
+    let (least, greatest) = span(draft.rows[place].key, field);
+    draft.rows[place].values[field] = [least - 1, least, greatest, greatest + 1][step as usize / ends.len() % 4];
+    draft.bytes()
+}
+
+fn two_of_each(dice: &mut Dice) -> Draft {
+    valid::draft(dice, Style::Plain, valid::Size { stages: 2, setters: 2, parts: 2, sections: 2 }, None)
+}
+
 fn one_fault(_: &Source, step: u64, dice: &mut Dice) -> Vec<u8> {
     let mut draft = any(dice);
     FAULTS[(step % FAULTS.len() as u64) as usize](&mut draft, dice);
@@ -223,7 +271,7 @@ fn any_form(sheet: &mut Vec<u8>, dice: &mut Dice) {
 
 /// Every form of a number in every field of a small sheet, one after the other.
 fn number_form(source: &Source, step: u64, dice: &mut Dice) -> Vec<u8> {
-    let mut sheet = source.base("form", step / 4096, small);
+    let mut sheet = source.base("form", step / 4096, small).bytes();
     let form = (step % forms::NUMBER_FORMS as u64) as usize;
     let field = step as usize / forms::NUMBER_FORMS % forms::field_count(&sheet);
     forms::number(&mut sheet, field, form);
@@ -239,13 +287,20 @@ fn small(dice: &mut Dice) -> Draft {
 }
 
 fn torn(source: &Source, step: u64, dice: &mut Dice) -> Vec<u8> {
-    let mut sheet = source.base("torn", step / TEARS, small);
+    let mut sheet = source.base("torn", step / TEARS, small).bytes();
     let mut length = (step % TEARS) as usize;
     if length > sheet.len() {
         sheet = any(dice).bytes();
         length = dice.below(sheet.len());
     }
     sheet.truncate(length);
+    sheet
+}
+
+/// A small sheet without one of its bytes, each in turn.
+fn byte_gone(source: &Source, step: u64, _: &mut Dice) -> Vec<u8> {
+    let mut sheet = source.base("gone", 0, small).bytes();
+    sheet.remove(step as usize % sheet.len());
     sheet
 }
 
@@ -275,6 +330,13 @@ fn long_or_noise(_: &Source, step: u64, dice: &mut Dice) -> Vec<u8> {
         forms::noise(&mut sheet, dice);
     }
     sheet
+}
+
+/// Something broken in every sheet, in each of these ways in turn.
+fn damaged(source: &Source, step: u64, dice: &mut Dice) -> Vec<u8> {
+    const WAYS: [Make; 7] = [one_fault, two_faults, number_form, torn, lines, |_, _, dice| bytes(dice), long_or_noise];
+    let ways = WAYS.len() as u64;
+    WAYS[(step % ways) as usize](source, step / ways, dice)
 }
 
 fn example(source: &Source, step: u64, dice: &mut Dice) -> Vec<u8> {

@@ -60,6 +60,13 @@ impl Draft {
         (0..self.rows.len()).filter(|&place| self.rows[place].key == key).collect()
     }
 
+    /// Every field of the first and of the last row of each kind.
+    pub fn ends(&self) -> Vec<(usize, usize)> {
+        let key = |place: usize| self.rows.get(place).map(|row| row.key);
+        let end = |place: &usize| key(place.wrapping_sub(1)) != key(*place) || key(place + 1) != key(*place);
+        (0..self.rows.len()).filter(end).flat_map(|place| (0..self.rows[place].values.len()).map(move |field| (place, field))).collect()
+    }
+
     /// The first row of this kind, which the sheet has.
     pub fn first(&mut self, key: Key) -> &mut Vec<i64> {
         let row = self.rows.iter_mut().find(|row| row.key == key).expect("a row of this kind");

@@ -1,7 +1,7 @@
-//! The comparison of the proved library with the second opinion, in its parts.
+//! The one maker of sheets, and the comparison of the proved library with the second opinion, in their parts.
 //!
-//! Sheets: `valid` makes them, `faults` and `forms` break them, `halves` and `inner` bring their figures to where rounding shows, and
-//! `cases` says how often each kind comes. The comparison: `harness` talks to the program in C that calls the library, `judge` says what
+//! Sheets: `valid` makes them, `faults` and `forms` break them, `halves` and `inner` bring their figures to where rounding shows, `streams`
+//! has those that are measured, and `cases` names the kinds and says how often each comes. The comparison: `harness` talks to the program in C that calls the library, `judge` says what
 //! is due, `show` puts a difference into words, and `run` does all of it.
 
 pub mod cases;
@@ -16,4 +16,5 @@ pub mod judge;
 pub mod program;
 pub mod run;
 pub mod show;
+pub mod streams;
 pub mod valid;

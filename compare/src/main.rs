@@ -38,19 +38,6 @@ fn plan() -> Option<Plan> {
     Some(plan)
 }
 
-/// The sheets under examples/, by name, so that their order does not hang on the file system.
-fn examples() -> io::Result<Vec<Vec<u8>>> {
-    let mut paths = Vec::new();
-    for entry in fs::read_dir("examples")? {
-        let path = entry?.path();
-        if path.extension().map_or(false, |kind| kind == "sheet") {
-            paths.push(path);
-        }
-    }
-    paths.sort();
-    paths.iter().map(fs::read).collect()
-}
-
 /// The sheets that the lines of this file name.
 fn named(names: &Path) -> io::Result<Vec<Case>> {
     let mut cases = Vec::new();
@@ -66,7 +53,7 @@ fn named(names: &Path) -> io::Result<Vec<Case>> {
 }
 
 fn compare(plan: &Plan) -> io::Result<Outcome> {
-    let source = Source::new(plan.seed, examples()?);
+    let source = Source::at_the_top(plan.seed)?;
     let given = match &plan.against {
         Against::Second => Vec::new(),
         Against::Before(names) => named(names)?,

@@ -2,7 +2,7 @@
 
 use crate::dice::Dice;
 use crate::draft::*;
-use second::limits::ALL_SHARES;
+use second::limits::{Span, ALL_SHARES};
 
 /// How a sheet's numbers are drawn.
 #[derive(Clone, Copy, PartialEq)]
@@ -11,6 +11,8 @@ pub enum Style {
     Plain,
     /// Anywhere inside the limits, often at one.
     Wild,
+    /// With as many digits as can be, or nearly, and below zero where that can be.
+    Wide,
     /// Each field at its least value or at its greatest, in all lines of a kind alike, by a bit for each field of `draft::fields`.
     Corner(u64),
 }
@@ -134,6 +136,10 @@ impl Maker<'_> {
         let limits = span(key, field);
         match self.style {
             Style::Wild => self.dice.wild(limits),
+            Style::Wide => {
+                let (least, greatest) = wide(limits);
+                self.dice.between(least, greatest)
+            }
             Style::Corner(greatest) => {
                 let place = fields().position(|other| other == (key, field)).expect("a field");
                 if greatest >> place & 1 == 1 {
@@ -196,6 +202,13 @@ impl Maker<'_> {
             return;
         }
         let mut shares = [0; 13];
+        if self.style == Style::Wide {
+            // A little of everything, and methane for the rest.
+            shares.iter_mut().for_each(|share| *share = self.dice.between(100, 760));
+            shares[6] += ALL_SHARES - shares.iter().sum::<i64>();
+            self.draft.add(GAS, &shares);
+            return;
+        }
         if matches!(self.style, Style::Corner(_)) && self.dice.once_in(2) {
             shares[self.dice.pick(&FUELS)] = ALL_SHARES;
             self.draft.add(GAS, &shares);
@@ -234,6 +247,7 @@ impl Maker<'_> {
         let total = match self.style {
             Style::Plain => self.dice.between(1_000, 60_000),
             Style::Wild => self.dice.wild((100, 200_000)),
+            Style::Wide => self.dice.between(100_000, 200_000),
             Style::Corner(_) => self.dice.pick(&[100, 200_000]),
         };
         let total = total.max(first.unwrap_or(0)).min(200_000);
@@ -241,7 +255,11 @@ impl Maker<'_> {
         for stage in 0..stages {
             let mut values = self.values(STAGE);
             if stage > 0 || first.is_none() {
-                values[0] = if stage + 1 == stages { rest } else { self.dice.wild((0, rest)) };
+                values[0] = match self.style {
+                    _ if stage + 1 == stages => rest,
+                    Style::Wide => self.dice.between(rest / 4, rest / 2),
+                    _ => self.dice.wild((0, rest)),
+                };
             }
             rest -= values[0].max(0).min(rest);
             self.draft.add(STAGE, &values);
@@ -288,6 +306,18 @@ impl Maker<'_> {
         }
         self.draft.add(WALL, &[number, stage, surface, air]);
     }
+}
+
+/// What lies below zero; without that, what has about as many digits as the greatest.
+fn wide((least, greatest): Span) -> Span {
+    if least < 0 {
+        return (least, -1);
+    }
+    let mut long = 1;
+    while 20 * long <= greatest {
+        long *= 10;
+    }
+    (least.max(long), greatest)
 }
 
 /// The values that firings have, where the limits are much wider.
