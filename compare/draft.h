@@ -2,30 +2,13 @@
 #ifndef DRAFT_H
 #define DRAFT_H
 
-#include <stdbool.h>
-#include <stddef.h>
 #include <stdint.h>
 
-enum { FIELDS_MOST = 13, ROWS_MOST = 64 };
+/* Written by compare/sheets. */
+#include "table.h"
 
-/* The kinds of lines, in the sheet's order. */
-enum kind {
-    SHEET, FIRING, PRODUCT, AMBIENT, FUEL, GAS, AIR, WARE, WATER, CLAY, STAGES, STAGE, SETTERS, SETTER, PARTS, PART, SECTIONS, SECTION,
-    WALLS, WALL, END, KINDS
-};
+enum { ROWS_MOST = 64 };
 
-struct span {
-    long least, most;
-};
-
-/* Document 01's table of lines. A line that counts stands before the kind that it counts. */
-struct form {
-    const char *key;
-    size_t fields;
-    bool counts;
-    struct span span[FIELDS_MOST];
-};
-extern const struct form forms[KINDS];
 bool counted(enum kind kind);
 
 struct draft {

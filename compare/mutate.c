@@ -83,7 +83,7 @@ static size_t change_text(uint8_t *text, size_t length, size_t most, struct dice
     case 7:
         /* up to the longest sheet and beyond it */
         if (thrown(dice, 32) == 0)
-            for (size_t due = 16382 + thrown(dice, 5); length < due && length < most;)
+            for (size_t due = SHEET_LONGEST - 2 + thrown(dice, 5); length < due && length < most;)
                 length = replace(text, length, most < due ? most : due, (struct part){one.to, one.to}, line, width);
         return length;
     default:

@@ -20,12 +20,19 @@ static long within(struct span span, struct dice *dice)
     return span.least + (long)thrown(dice, (uint64_t)(span.most - span.least) + 1);
 }
 
-/* Numbers at which something changes: breaks, limits of other fields, counts, lengths of numbers. */
-static const long breaks[] = {0, 1, -1, 2, 12, 13, 18, 19, 32, 33, 48, 49, 99, 100, 101, 199, 200, 210, 999, 1000, 7999, 8000, 8001,
-                              9999, 10000, 10001, 200000, 200001, 999999, 1000000, 999999999, 1000000000, -200, -201, -999999999};
+/* Numbers at which something changes besides the limits: breaks, sums, lengths of numbers. */
+static const long breaks[] = {0, 1, -1, 2, GAS_LEAST - 1, GAS_LEAST, 101, 199, 200, 210, 999, 1000, 7999, 8000, 8001, 9999, SHARES_ALL + 1,
+                              GAS_MOST + 1, 999999, 1000000000, -999999999};
 
 /* Halves are met where factors of 2 and 5 come together. */
 static const long steps[] = {2, 4, 5, 8, 16, 25, 32, 50, 64, 100, 125, 250, 500, 625, 1000, 1250, 2500, 3125, 5000, 10000};
+
+/* What is the most for some other field, or one beyond it. */
+static long some_limit(struct dice *dice)
+{
+    const struct form *form = &forms[thrown(dice, KINDS)];
+    return form->span[thrown(dice, form->fields)].most + (long)thrown(dice, 2);
+}
 
 static long another(long old, struct span span, struct dice *dice)
 {
@@ -39,7 +46,7 @@ static long another(long old, struct span span, struct dice *dice)
     case 3:
         return span.most + (long)thrown(dice, 3) - 1;
     case 4:
-        return breaks[thrown(dice, sizeof breaks / sizeof *breaks)];
+        return thrown(dice, 3) ? breaks[thrown(dice, sizeof breaks / sizeof *breaks)] : some_limit(dice);
     case 5:
     case 6:
         return old + (long)thrown(dice, 7) - 3;
@@ -68,8 +75,11 @@ static void fresh_row(long *row, enum kind kind, struct dice *dice)
 
 static enum kind some_block(struct dice *dice)
 {
-    static const enum kind blocks[] = {STAGE, SETTER, PART, SECTION, WALL};
-    return blocks[thrown(dice, 5)];
+    enum kind kind;
+    do
+        kind = (enum kind)thrown(dice, KINDS);
+    while (!counted(kind));
+    return kind;
 }
 
 static void change_block(struct draft *draft, struct dice *dice)
@@ -116,13 +126,13 @@ static void change_block(struct draft *draft, struct dice *dice)
 static void change_gas(long *share, struct dice *dice)
 {
     if (thrown(dice, 4) == 0) {
-        for (size_t gas = 0; gas < 13; gas++)
+        for (size_t gas = 0; gas < forms[GAS].fields; gas++)
             share[gas] = (long)thrown(dice, 1500);
         return;
     }
     memset(share, 0, FIELDS_MOST * sizeof *share);
     for (uint64_t kinds = 1 + thrown(dice, 3); kinds > 0; kinds--)
-        share[thrown(dice, 13)] = (long)thrown(dice, kinds == 1 ? 10001 : 5001);
+        share[thrown(dice, forms[GAS].fields)] = (long)thrown(dice, kinds == 1 ? SHARES_ALL + 1 : SHARES_ALL / 2 + 1);
 }
 
 void change_draft(struct draft *draft, struct dice *dice)
@@ -161,29 +171,30 @@ static void repair_limits(struct draft *draft)
     }
 }
 
-static void repair_material(struct draft *draft, enum kind kind, size_t material, size_t capacity)
+static void repair_materials(struct draft *draft)
 {
-    for (size_t row = 0; row < draft->rows[kind]; row++) {
-        long *value = draft->value[kind][row];
-        if (value[material] != 0)
-            value[capacity] = 0;
-        else if (value[capacity] == 0)
-            value[capacity] = 10000;
-    }
+    for (enum kind kind = SHEET; kind < KINDS; kind++)
+        for (size_t row = 0; forms[kind].material && row < draft->rows[kind]; row++) {
+            long *material = &draft->value[kind][row][forms[kind].material];
+            if (material[0] != 0)
+                material[1] = 0;
+            else if (material[1] == 0)
+                material[1] = 10000;
+        }
 }
 
 static void repair_gas(long *share)
 {
     long sum = 0;
-    for (size_t gas = 0; gas < 13; gas++)
+    for (size_t gas = 0; gas < forms[GAS].fields; gas++)
         sum += share[gas];
-    for (size_t gas = 0; gas < 13 && sum > 10000; gas++) {
-        long less = sum - 10000 < share[gas] ? sum - 10000 : share[gas];
+    for (size_t gas = 0; gas < forms[GAS].fields && sum > SHARES_ALL; gas++) {
+        long less = sum - SHARES_ALL < share[gas] ? sum - SHARES_ALL : share[gas];
         share[gas] -= less;
         sum -= less;
     }
     /* methane takes the rest, so that there is something to burn */
-    share[6] += 10000 - sum;
+    share[6] += SHARES_ALL - sum;
 }
 
 static void repair_sections(struct draft *draft)
@@ -191,7 +202,7 @@ static void repair_sections(struct draft *draft)
     for (size_t row = 0; row < draft->rows[SECTION]; row++)
         for (size_t other = 0; other < row; other++)
             if (draft->value[SECTION][other][0] == draft->value[SECTION][row][0]) {
-                draft->value[SECTION][row][0] = draft->value[SECTION][row][0] % 999 + 1;
+                draft->value[SECTION][row][0] = draft->value[SECTION][row][0] % forms[SECTION].span[0].most + 1;
                 /* the next number may be taken as well */
                 other = (size_t)-1;
             }
@@ -203,8 +214,9 @@ static void repair_walls(struct draft *draft, struct dice *dice)
     bool read[ROWS_MOST][ROWS_MOST + 1] = {{false}};
     bool idle[ROWS_MOST];
     size_t stages = draft->rows[STAGE], sections = draft->rows[SECTION], wall = 0;
-    if (stages * sections > 48)
-        sections = draft->rows[SECTION] = 48 / stages;
+    size_t readings = (size_t)forms[WALLS].span[0].most;
+    if (stages * sections > readings)
+        sections = draft->rows[SECTION] = readings / stages;
     for (size_t row = 0; row < draft->rows[WALL]; row++) {
         long *value = draft->value[WALL][row];
         size_t section = 0;
@@ -244,22 +256,21 @@ static void repair_colder(struct draft *draft)
 
 static void repair_total(struct draft *draft)
 {
-    long left = 200000;
+    long left = GAS_MOST;
     for (size_t row = 0; row < draft->rows[STAGE]; row++) {
         long *gas = &draft->value[STAGE][row][0];
         *gas = *gas > left ? left : *gas;
         left -= *gas;
     }
-    if (left > 199900)
-        draft->value[STAGE][0][0] += left - 199900;
+    if (left > GAS_MOST - GAS_LEAST)
+        draft->value[STAGE][0][0] += left - (GAS_MOST - GAS_LEAST);
 }
 
 void repair_draft(struct draft *draft, struct dice *dice)
 {
-    static const enum kind needed[] = {STAGE, SECTION};
-    for (size_t block = 0; block < 2; block++)
-        if (draft->rows[needed[block]] == 0)
-            fresh_row(draft->value[needed[block]][draft->rows[needed[block]]++], needed[block], dice);
+    for (enum kind kind = SHEET; kind < KINDS; kind++)
+        while (counted(kind) && (long)draft->rows[kind] < forms[kind - 1].span[0].least)
+            fresh_row(draft->value[kind][draft->rows[kind]++], kind, dice);
     /* the report rounds by the ware's mass: a joule that is off shows a hundred times sooner where the ware is light */
     if (thrown(dice, 3) == 0)
         draft->value[PRODUCT][0][0] = forms[PRODUCT].span[0].least + (long)thrown(dice, 8);
@@ -267,11 +278,8 @@ void repair_draft(struct draft *draft, struct dice *dice)
     enum { SELDOM = 12 };
     if (thrown(dice, SELDOM))
         repair_limits(draft);
-    if (thrown(dice, SELDOM)) {
-        repair_material(draft, WARE, 3, 4);
-        repair_material(draft, SETTER, 2, 3);
-        repair_material(draft, PART, 1, 2);
-    }
+    if (thrown(dice, SELDOM))
+        repair_materials(draft);
     if (thrown(dice, SELDOM))
         repair_gas(draft->value[GAS][0]);
     if (thrown(dice, SELDOM))

@@ -45,6 +45,21 @@ pub fn span(key: Key, field: usize) -> Span {
     LINES[key].1[field]
 }
 
+/// True of a line that says how many of the next kind follow.
+pub fn counts(key: Key) -> bool {
+    LINES.get(key + 1).map_or(false, |(one, _)| LINES[key].0.strip_suffix('s') == Some(*one))
+}
+
+/// Where a line names a material; the specific heat of its own stands behind that.
+pub fn material(key: Key) -> Option<usize> {
+    match key {
+        WARE => Some(3),
+        SETTER => Some(2),
+        PART => Some(1),
+        _ => None,
+    }
+}
+
 /// Every field of every kind of line, in the sheet's order.
 pub fn fields() -> impl Iterator<Item = (Key, usize)> {
     (0..LINES.len()).flat_map(|key| (0..LINES[key].1.len()).map(move |field| (key, field)))

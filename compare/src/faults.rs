@@ -64,15 +64,9 @@ fn far_range(draft: &mut Draft, dice: &mut Dice) {
 
 /// A material with a specific heat, or code 0 without one.
 fn material(draft: &mut Draft, dice: &mut Dice) {
-    let mut places = draft.places(SETTER);
-    places.extend(draft.places(PART));
-    places.extend(draft.places(WARE));
+    let places: Vec<usize> = [SETTER, PART, WARE].iter().flat_map(|&key| draft.places(key)).collect();
     let row = &mut draft.rows[dice.pick(&places)];
-    let field = match row.key {
-        WARE => 3,
-        SETTER => 2,
-        _ => 1,
-    };
+    let field = crate::draft::material(row.key).expect("one of these");
     let (code, heat) = dice.pick(&[(0, 0), (1, 1), (18, 1), (3, 100_000), (12, 1), (17, 1)]);
     row.values[field] = code;
     row.values[field + 1] = heat;

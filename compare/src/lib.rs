@@ -1,8 +1,9 @@
 //! The one maker of sheets, and the comparison of the proved library with the second opinion, in their parts.
 //!
 //! Sheets: `valid` makes them, `faults` and `forms` break them, `halves` and `inner` bring their figures to where rounding shows, `streams`
-//! has those that are measured, and `cases` names the kinds and says how often each comes. The comparison: `harness` talks to the program in C that calls the library, `judge` says what
-//! is due, `show` puts a difference into words, and `run` does all of it.
+//! has those that are measured, `cases` names the kinds and says how often each comes, and `table` is for the fuzzer. The comparison:
+//! `harness` talks to the program in C that calls the library, `judge` says what is due, `show` puts a difference into words, and `run` does
+//! all of it.
 
 pub mod cases;
 pub mod dice;
@@ -17,4 +18,5 @@ pub mod program;
 pub mod run;
 pub mod show;
 pub mod streams;
+pub mod table;
 pub mod valid;

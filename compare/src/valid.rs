@@ -75,14 +75,14 @@ pub fn draft(dice: &mut Dice, style: Style, size: Size, pin: Option<Pin>) -> Dra
     }
     maker.gas();
     maker.row(AIR);
-    maker.stuff(WARE, 3);
+    maker.stuff(WARE);
     maker.row(WATER);
     maker.row(CLAY);
     maker.stages(size.stages);
     maker.count(SETTERS, size.setters);
-    (0..size.setters).for_each(|_| maker.stuff(SETTER, 2));
+    (0..size.setters).for_each(|_| maker.stuff(SETTER));
     maker.count(PARTS, size.parts);
-    (0..size.parts).for_each(|_| maker.stuff(PART, 1));
+    (0..size.parts).for_each(|_| maker.stuff(PART));
     maker.surface(size);
     maker.row(END);
     maker.draft
@@ -169,8 +169,9 @@ impl Maker<'_> {
         self.draft.add(key, &[value]);
     }
 
-    /// A row that names a material in this field and a specific heat in the next, of which one is 0.
-    fn stuff(&mut self, key: Key, material: usize) {
+    /// A row that names a material and a specific heat, of which one is 0.
+    fn stuff(&mut self, key: Key) {
+        let material = material(key).expect("a line with a material");
         let pin = self.pin.filter(|pin| pin.key == key);
         let mut values = self.values(key);
         let own_heat = match pin {
@@ -196,24 +197,28 @@ impl Maker<'_> {
 
     fn gas(&mut self) {
         let pin = self.pin.filter(|pin| pin.key == GAS);
-        if self.style == Style::Plain && pin.is_none() {
-            let shares = self.dice.pick(&[NATURAL, NATURAL, METHANE, BOTTLED, TOWN, PRODUCER]);
-            self.draft.add(GAS, &shares);
-            return;
-        }
+        let shares = match self.style {
+            Style::Plain if pin.is_none() => self.dice.pick(&[NATURAL, NATURAL, METHANE, BOTTLED, TOWN, PRODUCER]),
+            Style::Wide if pin.is_none() => self.gas_of_all(),
+            Style::Corner(_) if self.dice.once_in(2) => {
+                let mut shares = [0; 13];
+                shares[self.dice.pick(&FUELS)] = ALL_SHARES;
+                shares
+            }
+            _ => self.gas_of_some(pin),
+        };
+        self.draft.add(GAS, &shares);
+    }
+
+    /// A little of everything, and methane for the rest.
+    fn gas_of_all(&mut self) -> [i64; 13] {
+        let mut shares = [0; 13].map(|_: i64| self.dice.between(100, 760));
+        shares[6] += ALL_SHARES - shares.iter().sum::<i64>();
+        shares
+    }
+
+    fn gas_of_some(&mut self, pin: Option<Pin>) -> [i64; 13] {
         let mut shares = [0; 13];
-        if self.style == Style::Wide {
-            // A little of everything, and methane for the rest.
-            shares.iter_mut().for_each(|share| *share = self.dice.between(100, 760));
-            shares[6] += ALL_SHARES - shares.iter().sum::<i64>();
-            self.draft.add(GAS, &shares);
-            return;
-        }
-        if matches!(self.style, Style::Corner(_)) && self.dice.once_in(2) {
-            shares[self.dice.pick(&FUELS)] = ALL_SHARES;
-            self.draft.add(GAS, &shares);
-            return;
-        }
         let mut rest = ALL_SHARES;
         if let Some(pin) = pin {
             shares[pin.field] = self.pinned(GAS, pin.field).unwrap_or(0);
@@ -237,7 +242,7 @@ impl Maker<'_> {
             gas = if gas == 6 { 0 } else { 6 };
         }
         shares[gas] += rest;
-        self.draft.add(GAS, &shares);
+        shares
     }
 
     /// Stages whose gas is inside its limits together.

@@ -1,11 +1,12 @@
 //! Makes sheets of the kinds that are named: sheets [--seed SEED] [--folder FOLDER] KIND=COUNT...
+//! or says to the fuzzer what a sheet is: sheets table, sheets words
 //!
 //! It is started at the top of the repository, by compare/sheets. A blank in a kind's name may be written as a hyphen. The sheets go to
 //! standard output one after the other, each behind its length in bytes on a line of its own; or each into a file of the folder. The same
 //! seed (1) gives the same sheets, and a kind that goes through something in order begins at its beginning.
 
 use compare::cases::{names, Source};
-use compare::streams;
+use compare::{streams, table};
 use std::io::{self, BufWriter, Write};
 use std::path::PathBuf;
 use std::process::ExitCode;
@@ -63,10 +64,13 @@ fn make(order: &Order) -> io::Result<()> {
 }
 
 fn main() -> ExitCode {
-    let done = match order() {
-        Some(order) => make(&order),
-        None => {
-            eprintln!("sheets [--seed SEED] [--folder FOLDER] KIND=COUNT...\nkinds: {}", names().join(", "));
+    let only = env::args().nth(1).filter(|_| env::args().len() == 2).unwrap_or_default();
+    let done = match (only.as_str(), order()) {
+        ("table", _) => fs::read_to_string("examples/worked.sheet").map(|example| print!("{}", table::header(&example))),
+        ("words", _) => io::stdout().write_all(table::words().as_bytes()),
+        (_, Some(order)) => make(&order),
+        (_, None) => {
+            eprintln!("sheets [--seed SEED] [--folder FOLDER] KIND=COUNT...\nsheets table|words\nkinds: {}", names().join(", "));
             return ExitCode::from(2);
         }
     };
