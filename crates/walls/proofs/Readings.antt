@@ -29,7 +29,8 @@ read-there cells n k = here (ltb k 144) refl
     here true e = let d : min k 143 ≡ k = omega (arith, ltb-true k 144 e) in ap (λ (i : ℕ). wasRead (getD cells i unread)) d
     here false e = sym (ap wasRead (List·getD-eq-default cells unread (omega (arith, n, ltb-false k 144 e))))
 
-pub read-is : (cells : List Reading) (k i : ℕ) (read : Bool) → length cells ≡ 144 → i ≡ min k 143 → read ≡ (ltb k 144 && wasRead (getD cells i unread)) → read ≡ readAt cells k
+pub read-is : (cells : List Reading) (k i : ℕ) (read : Bool) → length cells ≡ 144 → i ≡ min k 143
+    → read ≡ (ltb k 144 && wasRead (getD cells i unread)) → read ≡ readAt cells k
 read-is cells k i read n e r = r ∙ ap (λ (j : ℕ). ltb k 144 && wasRead (getD cells j unread)) e ∙ read-there cells n k
 
 -- A wall whose section is listed and whose stage is one of twelve.
