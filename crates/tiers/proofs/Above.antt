@@ -17,7 +17,8 @@ pub rows-here : (l : Line) (rows : List Row) (seen : Sheet) → lacks (l .key) s
 rows-here l rows [] e = rw (same-key (l .key))
 rows-here l rows (f ∷ fs) e = here (sameKey (l .key) (f .key)) (lacks (l .key) fs) (rows-here l rows fs) e
   where
-    here : (t u : Bool) → (u ≡ true → rowsOf (l .key) (fs ++ filled l rows) ≡ rows) → (not t && u) ≡ true → cond t (f .rows) (rowsOf (l .key) (fs ++ filled l rows)) ≡ rows
+    here : (t u : Bool) → (u ≡ true → rowsOf (l .key) (fs ++ filled l rows) ≡ rows) → (not t && u) ≡ true
+        → cond t (f .rows) (rowsOf (l .key) (fs ++ filled l rows)) ≡ rows
     here true u ih e = clash cc
     here false u ih e = ih e
 

@@ -14,6 +14,12 @@ use Rattle.tiers.specs.Filling.{With}
 use Rattle.records.specs.Read.{CountAfter}
 use Rattle.entries.proofs.Places.{after-bind, after-return, after-weaker}
 
+-- a step, and then what is itself two steps
+regroup : {A B C : Type 0} (r : Read A) (f : A → Reader C) (g : A → Reader B) (h : B → Reader C)
+    → ((a : A) (m : ℕ) (t : List ℕ) → f a m t ≡ andThen (g a m t) h) → andThen r f ≡ andThen (andThen r g) h
+regroup (stopped x m) f g h e = refl
+regroup (got a m t) f g h e = e a m t
+
 module _ (s : List ℕ) (l : Line) (rule : Rule) (seen : Sheet) where
   -- the line that is due after some rows, and the rows with it
   abbrev oneMore : List Row → Reader (List Row)
@@ -23,12 +29,9 @@ module _ (s : List ℕ) (l : Line) (rule : Rule) (seen : Sheet) where
   rows-end : (i : ℕ) (rows : List Row) (n : ℕ) (text : List ℕ) → readRows (suc i) l rule seen rows n text ≡ andThen (readRows i l rule seen rows n text) oneMore
   unfolding readRows
   rows-end zero rows n text = refl
-  rows-end (suc i) rows n text = here (readLine l (rule (seen ++ filled l rows)) n text) (λ row m t. rows-end i (rows ++ (row ∷ [])) m t)
-    where
-      here : (r : Read Row) → ((row : Row) (m : ℕ) (t : List ℕ) → readRows (suc i) l rule seen (rows ++ (row ∷ [])) m t ≡ andThen (readRows i l rule seen (rows ++ (row ∷ [])) m t) oneMore)
-          → andThen r (λ row. readRows (suc i) l rule seen (rows ++ (row ∷ []))) ≡ andThen (andThen r (λ row. readRows i l rule seen (rows ++ (row ∷ [])))) oneMore
-      here (stopped x m) ih = refl
-      here (got row m t) ih = ih row m t
+  rows-end (suc i) rows n text =
+      let below : ℕ → Row → Reader (List Row) = λ k row. readRows k l rule seen (rows ++ (row ∷ [])) in
+      regroup (readLine l (rule (seen ++ filled l rows)) n text) (below (suc i)) (below i) oneMore (λ row. rows-end i (rows ++ (row ∷ [])))
 
   pub block-start : (p : Place) (P : List Row → Type 0) → P [] → (good p ≡ true → Fair s p) → After s p (readRows 0 l rule seen []) p P
   unfolding readRows
@@ -45,7 +48,8 @@ module _ (s : List ℕ) (l : Line) (rule : Rule) (seen : Sheet) where
       record { reads = λ h. rw (rows-end i [] (p .line) (drop (p .at) s)) (w .reads h); passes = w .passes; fair = w .fair }
 
   module _ (p q q′ : Place) (P : List Row → Type 0) where
-    filled-after : (k : ℕ) → After s q (readRows k l rule seen []) q′ P → After s q (λ n t. andThen (readRows k l rule seen [] n t) (λ rows. return (seen ++ filled l rows))) q′ (With l seen P)
+    filled-after : (k : ℕ) → After s q (readRows k l rule seen []) q′ P
+        → After s q (λ n t. andThen (readRows k l rule seen [] n t) (λ rows. return (seen ++ filled l rows))) q′ (With l seen P)
     filled-after k b =
         after-bind s q q′ q′ (readRows k l rule seen []) (λ rows. return (seen ++ filled l rows)) P (With l seen P) b
         (λ rows h. after-return s q′ (seen ++ filled l rows) (With l seen P) (rows, refl, h) (b .fair)) (λ h. refl) (b .fair)
@@ -54,23 +58,28 @@ module _ (s : List ℕ) (l : Line) (rule : Rule) (seen : Sheet) where
     pub many-after : (key : List ℕ) (a b k : ℕ) → After s p (readLine (countLine key a b) (λ row. none)) q (λ row. k ≡ natAbs (getD (row .numbers) 0 (pos 0)))
         → After s q (readRows k l rule seen []) q′ P → After s p (readPart (many key a b l rule) seen) q′ (With l seen P)
     many-after key a b k x y =
-        after-bind s p q q′ (readLine (countLine key a b) (λ row. none)) (λ count n t. andThen (readRows (natAbs (getD (count .numbers) 0 (pos 0))) l rule seen [] n t) (λ rows. return (seen ++ filled l rows)))
+        after-bind s p q q′ (readLine (countLine key a b) (λ row. none))
+        (λ count n t. andThen (readRows (natAbs (getD (count .numbers) 0 (pos 0))) l rule seen [] n t) (λ rows. return (seen ++ filled l rows)))
         (λ row. k ≡ natAbs (getD (row .numbers) 0 (pos 0))) (With l seen P) x
-        (λ count e. filled-after (natAbs (getD (count .numbers) 0 (pos 0))) (subst (λ (i : ℕ). After s q (readRows i l rule seen []) q′ P) e y)) (y .passes) (y .fair)
+        (λ count e. filled-after (natAbs (getD (count .numbers) 0 (pos 0))) (subst (λ (i : ℕ). After s q (readRows i l rule seen []) q′ P) e y))
+        (y .passes) (y .fair)
 
   -- one line is a part
-  pub one-after : (p q : Place) (P : Row → Type 0) → After s p (readLine l (rule (seen ++ filled l []))) q P → After s p (readPart (one l rule) seen) q (With l seen (λ rows. (row : Row) × (rows ≡ row ∷ []) × P row))
+  pub one-after : (p q : Place) (P : Row → Type 0) → After s p (readLine l (rule (seen ++ filled l []))) q P
+      → After s p (readPart (one l rule) seen) q (With l seen (λ rows. (row : Row) × (rows ≡ row ∷ []) × P row))
   unfolding readRows
   one-after p q P a =
       let Q : List Row → Type 0 = λ rows. (row : Row) × (rows ≡ row ∷ []) × P row in
       filled-after p p q Q 1
-      (after-bind s p q q (readLine l (rule (seen ++ filled l []))) (λ row. return (row ∷ [])) P Q a (λ row h. after-return s q (row ∷ []) Q (row, refl, h) (a .fair)) (λ h. refl) (a .fair))
+      (after-bind s p q q (readLine l (rule (seen ++ filled l []))) (λ row. return (row ∷ [])) P Q a
+      (λ row h. after-return s q (row ∷ []) Q (row, refl, h) (a .fair)) (λ h. refl) (a .fair))
 
 -- a count line's number, as the rows below it take it
 pub count-after : {s : List ℕ} {p q : Place} {key : List ℕ} {a b count most : ℕ} → CountAfter s p (countLine key a b) q count most
     → After s p (readLine (countLine key a b) (λ row. none)) q (λ row. count ≡ natAbs (getD (row .numbers) 0 (pos 0)))
 count-after {s} {p} {q} {key} {a} {b} {count} h =
-    after-weaker s p q (readLine (countLine key a b) (λ row. none)) (λ row. pos count ≡ getD (row .numbers) 0 (pos 0)) (λ row. count ≡ natAbs (getD (row .numbers) 0 (pos 0))) (λ row e. ap natAbs e) (h .after)
+    after-weaker s p q (readLine (countLine key a b) (λ row. none)) (λ row. pos count ≡ getD (row .numbers) 0 (pos 0))
+    (λ row. count ≡ natAbs (getD (row .numbers) 0 (pos 0))) (λ row e. ap natAbs e) (h .after)
 
 -- a refused place passes through two readings
 pub pass-on : {p q r : Place} → (good p ≡ false → q ≡ p) → (good q ≡ false → r ≡ q) → good p ≡ false → r ≡ p
@@ -101,15 +110,11 @@ then-part s part l ps seen Q p q q′ P a k g f =
 pub parts-split : (ps qs : List Part) (seen : Sheet) (n : ℕ) (t : List ℕ) → readParts (ps ++ qs) seen n t ≡ andThen (readParts ps seen n t) (readParts qs)
 unfolding readParts
 parts-split [] qs seen n t = refl
-parts-split (p ∷ ps) qs seen n t = here (readPart p seen n t) (λ sheet m u. parts-split ps qs sheet m u)
-  where
-    here : (r : Read Sheet) → ((sheet : Sheet) (m : ℕ) (u : List ℕ) → readParts (ps ++ qs) sheet m u ≡ andThen (readParts ps sheet m u) (readParts qs))
-        → andThen r (readParts (ps ++ qs)) ≡ andThen (andThen r (readParts ps)) (readParts qs)
-    here (stopped x m) ih = refl
-    here (got sheet m u) ih = ih sheet m u
+parts-split (p ∷ ps) qs seen n t = regroup (readPart p seen n t) (readParts (ps ++ qs)) (readParts ps) (readParts qs) (parts-split ps qs)
 
 pub then-parts : (s : List ℕ) (ps qs : List Part) (seen : Sheet) (p q q′ : Place) (P Q : Sheet → Type 0) → After s p (readParts ps seen) q P
-    → ((sheet : Sheet) → P sheet → After s q (readParts qs sheet) q′ Q) → (good q ≡ false → q′ ≡ q) → (good q′ ≡ true → Fair s q′) → After s p (readParts (ps ++ qs) seen) q′ Q
+    → ((sheet : Sheet) → P sheet → After s q (readParts qs sheet) q′ Q) → (good q ≡ false → q′ ≡ q) → (good q′ ≡ true → Fair s q′)
+    → After s p (readParts (ps ++ qs) seen) q′ Q
 then-parts s ps qs seen p q q′ P Q a k g f =
     let w = after-bind s p q q′ (readParts ps seen) (readParts qs) P Q a k g f in
     record { reads = λ h. rw (parts-split ps qs seen (p .line) (drop (p .at) s)) (w .reads h); passes = w .passes; fair = w .fair }

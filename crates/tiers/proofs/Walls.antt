@@ -20,7 +20,7 @@ use Rattle.lines.specs.Tests.{when, wall-rule}
 use Rattle.lines.specs.Document01.{wallLine}
 use Rattle.lines.specs.Limits.{In}
 use Rattle.lines.specs.Quantities.{stageNumber}
-use Rattle.lines.specs.Reader.{Sheet, filled, readLine, readRows}
+use Rattle.lines.specs.Reader.{Sheet, Reader, filled, readLine, readRows}
 use Rattle.lines.specs.Rows.{stageOf, sectionOf, wallOf, stagesIn, sectionsIn, wallsIn}
 use Rattle.lines.specs.Rules.{Every}
 use Rattle.lines.proofs.Cases.{clash}
@@ -67,7 +67,7 @@ abbrev ruling-at : List Section → ℕ → List Reading → Wall → Ruling
 ruling-at S k cells x = rulingOf (ltb (before (x .section) S) (length S)) (leb (natAbs (x .stage)) k) (readAt cells (cell S x)) (ltZ (x .surface) (x .air))
 
 abbrev pub rule-on : List Section → ℕ → List Reading → Wallˢ → Ruling
-rule-on S k cells w = rulingOf (ltb (before (pos (w .section .0)) S) (length S)) (leb (w .stage .0) k) (readAt cells (cell S (wall w))) (ltZ (w .surface .0) (w .air .0))
+rule-on S k cells w = ruling-at S k cells (wall w)
 
 agree : {S S′ : List Section} {k k′ : ℕ} {c c′ : List Reading} {x x′ : Wall} → S ≡ S′ → k ≡ k′ → c ≡ c′ → x ≡ x′
     → said (ruling-at S k c x) ≡ said (ruling-at S′ k′ c′ x′)
@@ -78,13 +78,16 @@ pub unbroken-place : (S : List Section) (k : ℕ) (cells : List Reading) (w : Wa
 unbroken-place S k cells w e = ltb-true (before (pos (w .section .0)) S) (length S) (unbroken-listed _ _ _ _ e)
 
 settled-passes : {s : List ℕ} (q : Place) (l : WallLine) (r : Ruling) → WallAfter s q l → good q ≡ false → settled (q .line) (l .place) r ≡ q
-settled-passes q l r b h = let e = b .after .passes h in not-good (q .line) (l .place) (r .why) (good (l .place)) (r .broken) (ap (λ (y : Place). good y) e ∙ h) ∙ e
+settled-passes q l r b h =
+    let e = b .after .passes h in
+    not-good (q .line) (l .place) (r .why) (good (l .place)) (r .broken) (ap (λ (y : Place). good y) e ∙ h) ∙ e
 
 pub settled-fair : {s : List ℕ} (q : Place) (l : WallLine) (r : Ruling) → WallAfter s q l → good (settled (q .line) (l .place) r) ≡ true
     → Fair s (settled (q .line) (l .place) r)
 settled-fair {s} q l r b = good-test (q .line) (l .place) (r .why) s (good (l .place) && r .broken) (b .after .fair)
 
-module _ (s : List ℕ) (S : List Section) (k : ℕ) (few : length S ≤ 12) (seen : Sheet) (none-yet : lacks (bytes "wall") seen ≡ true) (above : sectionsIn seen ≡ S) (so-many : length (stagesIn seen) ≡ k) where
+module _ (s : List ℕ) (S : List Section) (k : ℕ) (few : length S ≤ 12) (seen : Sheet) (none-yet : lacks (bytes "wall") seen ≡ true)
+    (above : sectionsIn seen ≡ S) (so-many : length (stagesIn seen) ≡ k) where
   stage-in : (w : Wallˢ) → 1 ≤ w .stage .0 → w .stage .0 ≤ 12 → In stageNumber (pos (w .stage .0))
   stage-in w l m = record { low = record { le = le→leb 1 (w .stage .0) l }; high = record { le = le→leb (w .stage .0) 12 m } }
 
@@ -111,7 +114,9 @@ module _ (s : List ℕ) (S : List Section) (k : ℕ) (few : length S ≤ 12) (se
       let one = map-append wallOf rows (row ∷ []) in
       let p : Placed S (wall w) = record { listed = unbroken-place S k cells w f; staged = stage-in w l m } in
       record {
-        lie = ap₂ (λ (c : List Reading) (x : Wall). set c (cell S x) (reading x)) (shown .lie) e ∙ sym (laid-more S (replicate 144 unread) (map wallOf rows) (wallOf row)) ∙ ap (laid S (replicate 144 unread)) (sym one);
+        lie =
+            ap₂ (λ (c : List Reading) (x : Wall). set c (cell S x) (reading x)) (shown .lie) e
+            ∙ sym (laid-more S (replicate 144 unread) (map wallOf rows) (wallOf row)) ∙ ap (laid S (replicate 144 unread)) (sym one);
         placed = rw one (placed-more S (map wallOf rows) (wallOf row) (shown .placed) (subst (Placed S) e p));
       }
 
@@ -124,12 +129,18 @@ module _ (s : List ℕ) (S : List Section) (k : ℕ) (few : length S ≤ 12) (se
       let r = rule-on S k cells w in
       let P : Row → Type 0 = λ row. wall w ≡ wallOf row in
       let rule = wall-rule (seen ++ filled wallLine rows) in
+      let is : (row : Row) → P row → rule row ≡ said r = λ row. rule-is cells rows w row shown (b .least) (b .most) in
       after-weaker s q (settled (q .line) (l .place) r) (readLine wallLine rule) (Kept s q (l .place) wallLine P rule (r .broken) (r .why))
       (λ row. WallsShown S (set cells (cell S (wall w)) (reading (wall w))) (rows ++ (row ∷ [])))
-      (λ row h. wall-shown cells rows w row shown (b .least) (b .most) (h .0) (none-said r (sym (rule-is cells rows w row shown (b .least) (b .most) (h .0)) ∙ h .1)))
-      (ruled-after s q (l .place) wallLine P rule (r .broken) (r .why) (λ row e. rule-is cells rows w row shown (b .least) (b .most) e) (b .after))
+      (λ row h. wall-shown cells rows w row shown (b .least) (b .most) (h .0) (none-said r (sym (is row (h .0)) ∙ h .1)))
+      (ruled-after s q (l .place) wallLine P rule (r .broken) (r .why) is (b .after))
 
   -- where the line was refused the cells stay as they were, and of what was read nothing is said
+  if-good : {p q : Place} {cells cells′ : List Reading} (t : Bool) (m : Reader (List Row)) → good q ≡ t → (good q ≡ true → cells′ ≡ cells)
+      → After s p m q (WallsShown S cells) → After s p m q (WallsShown S cells′)
+  if-good true m e same x = rw (same e) x
+  if-good {p} {q} {cells} {cells′} false m e same x = after-refused s p q m (WallsShown S cells) (WallsShown S cells′) e x
+
   pub next : (p q : Place) (l : WallLine) (i : ℕ) (cells cells′ : List Reading)
       → After s p (readRows i wallLine wall-rule seen []) q (WallsShown S cells) → WallAfter s q l
       → (good (settled (q .line) (l .place) (rule-on S k cells (l .wall))) ≡ true → cells′ ≡ set cells (cell S (wall (l .wall))) (reading (wall (l .wall))))
@@ -139,12 +150,7 @@ module _ (s : List ℕ) (S : List Section) (k : ℕ) (few : length S ≤ 12) (se
       let q′ = settled (q .line) (l .place) (rule-on S k cells w) in
       let cells″ = set cells (cell S (wall w)) (reading (wall w)) in
       let done : After s p (readRows (i + 1) wallLine wall-rule seen []) q′ (WallsShown S cells″) =
-      rw (add-one i) (block-more s wallLine wall-rule seen p q q′ i (WallsShown S cells) (WallsShown S cells″) a (λ rows shown. ruled-wall q l cells rows shown b) (settled-passes q l (rule-on S k cells w) b) (settled-fair q l (rule-on S k cells w) b)) in
-      either (good q′) refl done
-    where
-      either : (t : Bool) → good (settled (q .line) (l .place) (rule-on S k cells (l .wall))) ≡ t
-          → After s p (readRows (i + 1) wallLine wall-rule seen []) (settled (q .line) (l .place) (rule-on S k cells (l .wall)))
-          (WallsShown S (set cells (cell S (wall (l .wall))) (reading (wall (l .wall)))))
-          → After s p (readRows (i + 1) wallLine wall-rule seen []) (settled (q .line) (l .place) (rule-on S k cells (l .wall))) (WallsShown S cells′)
-      either true e x = rw (same e) x
-      either false e x = after-refused s p (settled (q .line) (l .place) (rule-on S k cells (l .wall))) (readRows (i + 1) wallLine wall-rule seen []) _ (WallsShown S cells′) e x
+      rw (add-one i)
+      (block-more s wallLine wall-rule seen p q q′ i (WallsShown S cells) (WallsShown S cells″) a (λ rows shown. ruled-wall q l cells rows shown b)
+      (settled-passes q l (rule-on S k cells w) b) (settled-fair q l (rule-on S k cells w) b)) in
+      if-good (good q′) (readRows (i + 1) wallLine wall-rule seen []) refl same done

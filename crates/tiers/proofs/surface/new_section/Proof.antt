@@ -5,7 +5,6 @@ use mathlib.Core.List.{List, map}
 use native.Mathlib.Omega.{arith}
 use borrow.Author.Needs.{needs}
 use lib.Dec.{ltb}
-use lib.IntN.{ℤ}
 use lib.ListN.{length, take, length-take, length-map}
 use Rattle.sheet.specs.declared.Refusal.the-variants.{SectionTwice}
 use Rattle.sheet.specs.declared.Section.{Section as Sectionˢ}
@@ -25,15 +24,18 @@ shown-length i l h = length-map (take i l) section ∙ length-take i l ∙ omega
 
 returns : tie.Need-returns
 returns c lines e =
-    let k = c .before .before .section-place in
-    let l = c .before .before .before .before .before .section-line in
-    let a = c .before .before .before .before .before .before .before in
+    let placed = c .before .before in
+    let line = placed .before .before .before in
+    let a = line .before .before in
+    let k = placed .section-place in
+    let l = line .section-line in
     let S = map section (take (a .args .i) lines) in
     let n = shown-length (a .args .i) lines (omega (arith, a .pre .0, numbers-length lines e)) in
     let stands = k .ensures ∙ place-among lines e (l .result .section .number .0) (a .args .i) in
     rw (c .ruled .ensures)
-    (ruled-after (a .args .s .now) (a .args .p) (l .result .place) sectionLine (λ row. section (l .result .section) ≡ sectionOf row) (twice S) (ltb (k .result) (a .args .i)) SectionTwice
-    (λ row h. ap₂ (λ (x y : ℕ). when (ltb x y) SectionTwice) (ap (λ (z : ℤ). before z S) (sym (ap (λ (x : Section). x .number) h)) ∙ sym stands) n) (l .ensures))
+    (ruled-after (a .args .s .now) (a .args .p) (l .result .place) sectionLine (λ row. section (l .result .section) ≡ sectionOf row)
+    (twice S) (ltb (k .result) (a .args .i)) SectionTwice
+    (λ row h. ap₂ (λ (x y : ℕ). when (ltb x y) SectionTwice) (sym (ap (λ (x : Section). before (x .number) S) h) ∙ sym stands) n) (l .ensures))
 
 pub new-section-spec : {M : Type 1} → statement M
 new-section-spec = tie.close (tie.spec (λ c κs. search needs) (λ c κs. search needs) (λ c κs. search needs) returns)

@@ -60,19 +60,23 @@ one-shown i lines rows x row h w e =
 
 next : (s : List ℕ) (p q q′ : Place) (i : ℕ) (lines : List Sectionˢ) (x : Sectionˢ) (seen : Sheet) → i < 12 → lacks (bytes "section") seen ≡ true
     → After s p (readRows i sectionLine section-rule seen []) q (SectionsShown i lines)
-    → After s q (readLine sectionLine (twice (map section (take i lines)))) q′ (λ row. (section x ≡ sectionOf row) × (twice (map section (take i lines)) row ≡ none))
+    → After s q (readLine sectionLine (twice (map section (take i lines)))) q′
+    (λ row. (section x ≡ sectionOf row) × (twice (map section (take i lines)) row ≡ none))
     → After s p (readRows (i + 1) sectionLine section-rule seen []) q′ (SectionsShown (i + 1) (set lines i x))
 next s p q q′ i lines x seen h e a b =
+    let P : Row → Type 0 = λ row. (section x ≡ sectionOf row) × (twice (map section (take i lines)) row ≡ none) in
     rw (add-one i)
     (block-more s sectionLine section-rule seen p q q′ i (SectionsShown i lines) (SectionsShown (suc i) (set lines i x)) a
-    (λ rows w. after-weaker s q q′ (readLine sectionLine (section-rule (seen ++ filled sectionLine rows))) _ (λ row. SectionsShown (suc i) (set lines i x) (rows ++ (row ∷ [])))
+    (λ rows w. after-weaker s q q′ (readLine sectionLine (section-rule (seen ++ filled sectionLine rows))) P
+    (λ row. SectionsShown (suc i) (set lines i x) (rows ++ (row ∷ [])))
     (λ row k. rw (add-one i) at (one-shown i lines rows x row h w k))
-    (subst (λ (rule : Row → Option Refusal). After s q (readLine sectionLine rule) q′ (λ row. (section x ≡ sectionOf row) × (twice (map section (take i lines)) row ≡ none))) (rule-here seen i lines rows e w) b))
+    (subst (λ (rule : Row → Option Refusal). After s q (readLine sectionLine rule) q′ P) (rule-here seen i lines rows e w) b))
     (b .passes) (b .fair))
 
 abbrev Inv-loop : tie.InvT-loop
 Inv-loop s k ns₀ lines₀ p₀ i₀ ns lines p i =
-    (i ≤ k) × (k ≤ 12) × (length lines ≡ 12) × Ready s p × (ns ≡ numbers lines) × ((seen : Sheet) → lacks (bytes "section") seen ≡ true → After s p₀ (readRows i sectionLine section-rule seen []) p (SectionsShown i lines))
+    (i ≤ k) × (k ≤ 12) × (length lines ≡ 12) × Ready s p × (ns ≡ numbers lines)
+    × ((seen : Sheet) → lacks (bytes "section") seen ≡ true → After s p₀ (readRows i sectionLine section-rule seen []) p (SectionsShown i lines))
 
 abbrev μ-loop : tie.MeasureT-loop
 μ-loop s k ns₀ lines₀ p₀ i₀ ns lines p i = k - i
@@ -80,9 +84,16 @@ abbrev μ-loop : tie.MeasureT-loop
 loop-holds : tie.Need-loop-holds Inv-loop μ-loop
 loop-holds c =
     let a = c .before .before in
-    let none-shown : SectionsShown 0 (replicate 12 blankSection) [] = record { filled = none-filled section sectionOf blankSection 12; distinct = distinct-none } in
-    rw (c .section .ensures)
-    (omega arith, a .pre .0, omega arith, a .pre .1, refl, λ seen e. block-start (a .args .s .now) sectionLine section-rule seen (a .args .start) (SectionsShown 0 _) none-shown (a .pre .1 .fair))
+    let none-shown : SectionsShown 0 (replicate 12 blankSection) [] =
+    record { filled = none-filled section sectionOf blankSection 12; distinct = distinct-none } in
+    rw (c .section .ensures) (
+      omega arith,
+      a .pre .0,
+      omega arith,
+      a .pre .1,
+      refl,
+      λ seen e. block-start (a .args .s .now) sectionLine section-rule seen (a .args .start) (SectionsShown 0 _) none-shown (a .pre .1 .fair),
+    )
 
 new-section-requires : tie.Need-new-section-requires Inv-loop μ-loop
 new-section-requires c κs =
@@ -91,9 +102,11 @@ new-section-requires c κs =
 
 loop-again : tie.Need-loop-again Inv-loop μ-loop
 loop-again c =
-    let l = c .before .before .new-section in
-    let at = c .before .before .before .before .before .loop in
-    let a = c .before .before .before .before .before .before .before .before .args in
+    let read = c .before .before in
+    let turn = read .before .before .before in
+    let a = turn .before .before .before .args in
+    let l = read .new-section in
+    let at = turn .loop in
     let line = l .ensures (at .lines) (at .inv .4) in (
       omega arith,
       at .inv .1,
@@ -105,10 +118,12 @@ loop-again c =
 
 returns : tie.Need-returns Inv-loop μ-loop
 returns c =
-    let at = c .before .loop in
-    let e : at .i ≡ c .before .before .before .before .args .k = omega arith in
-    rw (← e) (at .inv .5)
+    let turn = c .before in
+    let e : turn .loop .i ≡ turn .before .before .before .args .k = omega arith in
+    rw (← e) (turn .loop .inv .5)
 
 pub section-rows-spec : {M : Type 1} → statement M
 section-rows-spec =
-    tie.close (tie.spec Inv-loop μ-loop (λ c κs. search needs) loop-holds new-section-requires (λ c. search needs) (λ c. search needs) (λ c. search needs) (λ c. search needs) (λ c. search needs) (λ c. omega arith) loop-again returns)
+    tie.close
+    (tie.spec Inv-loop μ-loop (λ c κs. search needs) loop-holds new-section-requires (λ c. search needs) (λ c. search needs) (λ c. search needs)
+    (λ c. search needs) (λ c. search needs) (λ c. omega arith) loop-again returns)

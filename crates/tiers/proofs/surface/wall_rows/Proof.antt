@@ -60,7 +60,8 @@ found-below {sections} {count} {stages} {cells} {l} {line} {j} {q′} h f g =
 
 abbrev Inv-loop : tie.InvT-loop
 Inv-loop s n count stages ns readings₀ p₀ i₀ readings p i =
-    (i ≤ n) × (count ≤ 12) × (count ≤ length ns) × (length readings ≡ 144) × Ready s p × ((sections : List Sectionˢ) → ns ≡ numbers sections → WallsAfter s p₀ i (shown sections count) stages p readings)
+    (i ≤ n) × (count ≤ 12) × (count ≤ length ns) × (length readings ≡ 144) × Ready s p
+    × ((sections : List Sectionˢ) → ns ≡ numbers sections → WallsAfter s p₀ i (shown sections count) stages p readings)
 
 abbrev μ-loop : tie.MeasureT-loop
 μ-loop s n count stages ns readings₀ p₀ i₀ readings p i = n - i
@@ -69,27 +70,37 @@ loop-holds : tie.Need-loop-holds Inv-loop μ-loop
 loop-holds c =
     let a = c .before .before .before in
     let none-shown : (S : List Section) → WallsShown S (replicate 144 unread) [] = unfold laid in λ S. record { lie = refl; placed = tt } in
-    rw (c .before .reading .ensures)
-    (omega arith, a .pre .0, omega (arith, numbers-length (a .args .sections) (c .numbers-of .ensures)), omega arith, a .pre .1, λ sections same seen e f g. block-start (a .args .s .now) wallLine wall-rule seen (a .args .start) (WallsShown (shown sections (a .args .count)) (replicate 144 unread)) (none-shown _) (a .pre .1 .fair))
+    rw (c .before .reading .ensures) (
+      omega arith,
+      a .pre .0,
+      omega (arith, numbers-length (a .args .sections) (c .numbers-of .ensures)),
+      omega arith,
+      a .pre .1,
+      λ sections same seen e f g. block-start (a .args .s .now) wallLine wall-rule seen (a .args .start)
+          (WallsShown (shown sections (a .args .count)) (replicate 144 unread)) (none-shown _) (a .pre .1 .fair),
+    )
 
 wall-line-requires : tie.Need-wall-line-requires Inv-loop μ-loop
 wall-line-requires c κs = c .before .loop .inv .4
 
 -- the places that others are reached from
+abbrev known : tie.After-wall-place Inv-loop μ-loop → tie.After-looked-up Inv-loop μ-loop
+known b = b .before .before .before .before
+
 abbrev looked : tie.After-wall-place Inv-loop μ-loop → tie.After-section-place Inv-loop μ-loop
-looked b = b .before .before .before .before .before .before
+looked b = known b .before .before
 
 abbrev line : tie.After-section-place Inv-loop μ-loop → tie.After-wall-line Inv-loop μ-loop
-line c = c .before .before .before .before .before
+line c = let number = c .before .before .before in number .before .before
 
 abbrev turn : tie.After-section-place Inv-loop μ-loop → tie.At-loop Inv-loop μ-loop
-turn c = c .before .before .before .before .before .before .before
+turn c = line c .before .before
 
 abbrev start : tie.At-loop Inv-loop μ-loop → tie.Start Inv-loop μ-loop
 start c = c .before .before .before .before
 
 section-place-requires : tie.Need-section-place-requires Inv-loop μ-loop
-section-place-requires c κs = let at = c .before .before .before .before .before .before .loop in (at .inv .1, at .inv .2)
+section-place-requires c κs = let line = c .before .before .before .before in (line .before .before .loop .inv .1, line .before .before .loop .inv .2)
 
 few : (c : tie.After-section-place Inv-loop μ-loop) → c .section-place .result ≤ 12
 few c =
@@ -115,15 +126,17 @@ array-copy-out-there : tie.Need-array-copy-out-there Inv-loop μ-loop
 array-copy-out-there c = omega (arith, c .looked-up .ensures)
 
 found-there : (b : tie.After-wall-place Inv-loop μ-loop) (sections : List Sectionˢ) → turn (looked b) .before .numbers-of .result ≡ numbers sections
-    → Found sections (start (turn (looked b)) .args .count) (start (turn (looked b)) .args .stages) (turn (looked b) .loop .readings) (line (looked b) .wall-line .result) (turn (looked b) .loop .p .line) (looked b .section-place .result) (b .wall-place .result)
+    → Found sections (start (turn (looked b)) .args .count) (start (turn (looked b)) .args .stages) (turn (looked b) .loop .readings)
+    (line (looked b) .wall-line .result) (turn (looked b) .loop .p .line) (looked b .section-place .result) (b .wall-place .result)
 found-there b sections e =
     let l = line (looked b) .wall-line .result in
     let j = looked b .section-place in
     let at = turn (looked b) .loop in
     let a = start (turn (looked b)) .args in
-    found sections (a .count) (a .stages) (at .readings) l (at .p .line) (j .result) (b .before .before .is-read .result) (b .wall-place .result) (omega (arith, at .inv .2, numbers-length sections e))
+    found sections (a .count) (a .stages) (at .readings) l (at .p .line) (j .result) (b .before .before .is-read .result) (b .wall-place .result)
+    (omega (arith, at .inv .2, numbers-length sections e))
     (j .ensures ∙ place-among sections e (l .wall .section .0) (a .count))
-    (read-is (at .readings) _ _ _ (at .inv .3) (b .before .before .before .before .looked-up .ensures) (b .before .before .is-read .ensures)) (b .wall-place .ensures)
+    (read-is (at .readings) _ _ _ (at .inv .3) (known b .looked-up .ensures) (b .before .before .is-read .ensures)) (b .wall-place .ensures)
 
 loop-again : tie.Need-loop-again Inv-loop μ-loop
 loop-again c =
@@ -132,7 +145,7 @@ loop-again c =
     let at = turn (looked b) .loop in
     let a = start (turn (looked b)) .args in
     let w = l .result .wall in
-    let known = turn (looked b) .before .numbers-of .ensures in
+    let named = turn (looked b) .before .numbers-of .ensures in
     let S : List Sectionˢ → List Section = λ sections. shown sections (a .count) in
     let r : List Sectionˢ → Ruling = λ sections. rule-on (S sections) (a .stages) (at .readings) w in
     let size : length (c .if1 .readings) ≡ 144 = ⊎-elim (λ t. rw (t .2) (simp length-set (at .inv .3))) (λ t. rw (t .1) (at .inv .3)) (c .if1 .came) in
@@ -141,17 +154,21 @@ loop-again c =
       at .inv .1,
       at .inv .2,
       size,
-      rw (found-there b (a .sections) known .after) (record { short = at .inv .4 .short; fair = settled-fair (at .p) (l .result) (r (a .sections)) (l .ensures) }),
+      rw (found-there b (a .sections) named .after)
+          (record { short = at .inv .4 .short; fair = settled-fair (at .p) (l .result) (r (a .sections)) (l .ensures) }),
       λ sections same.
           let f = found-there b sections same in
           let room : a .count ≤ length sections = omega (arith, at .inv .2, numbers-length sections same) in
           let few : length (S sections) ≤ 12 = omega (arith, at .inv .1, count-is sections (a .count) room) in
-          let stored : good (settled (at .p .line) (l .result .place) (r sections)) ≡ true → c .if1 .readings ≡ set (at .readings) (cell (S sections) (wall w)) (reading (wall w)) =
+          let stored : good (settled (at .p .line) (l .result .place) (r sections)) ≡ true
+          → c .if1 .readings ≡ set (at .readings) (cell (S sections) (wall w)) (reading (wall w)) =
           ⊎-elim
           (λ t g. t .2 ∙ ap₂ (λ (k : ℕ) (x : Reading). set (at .readings) (k * 12 + (w .stage .0 - 1)) x) (f .place) (t .1 .ensures))
           (λ t g. not-both (good (b .wall-place .result)) (ap good (f .after) ∙ g) (is-bad (b .wall-place .result) (t .0 .left)))
           (c .if1 .came) in
-          λ seen e g h. rw (f .after) (next (a .s .now) (S sections) (a .stages) few seen e g h (a .start) (at .p) (l .result) (at .i) (at .readings) (c .if1 .readings) (at .inv .5 sections same seen e g h) (l .ensures) stored),
+          λ seen e g h. rw (f .after)
+          (next (a .s .now) (S sections) (a .stages) few seen e g h (a .start) (at .p) (l .result) (at .i) (at .readings) (c .if1 .readings)
+          (at .inv .5 sections same seen e g h) (l .ensures) stored),
     )
 
 add-i : tie.Need-add-i Inv-loop μ-loop
@@ -170,16 +187,17 @@ array-set-from-readings c =
     let b = c .before .before .before in
     let a = start (turn (looked b)) .args in
     let at = turn (looked b) .loop in
-    let known = turn (looked b) .before .numbers-of .ensures in
-    let f = found-there b (a .sections) known in
-    let k : looked b .section-place .result < a .count = found-below (omega (arith, at .inv .2, numbers-length (a .sections) known)) f (is-good (b .wall-place .result) (c .before .if1 .taken)) in
+    let named = turn (looked b) .before .numbers-of .ensures in
+    let f = found-there b (a .sections) named in
+    let room : a .count ≤ length (a .sections) = omega (arith, at .inv .2, numbers-length (a .sections) named) in
+    let k : looked b .section-place .result < a .count = found-below room f (is-good (b .wall-place .result) (c .before .if1 .taken)) in
     let m = line (looked b) .wall-line .ensures .most in
     omega (arith, at .inv .1)
 
 returns : tie.Need-returns Inv-loop μ-loop
 returns c =
     let at = c .before .loop in
-    let a = c .before .before .before .before .before .args in
+    let a = start (c .before) .args in
     let e : at .i ≡ a .n = omega arith in
     rw (← e) (at .inv .5 (a .sections) (c .before .before .numbers-of .ensures))
 
