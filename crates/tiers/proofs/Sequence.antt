@@ -55,7 +55,7 @@ module _ (s : List ℕ) (l : Line) (rule : Rule) (seen : Sheet) where
         (λ rows h. after-return s q′ (seen ++ filled l rows) (With l seen P) (rows, refl, h) (b .fair)) (λ h. refl) (b .fair)
 
     -- a count line that gives k, then k rows, is a part
-    pub many-after : (key : List ℕ) (a b k : ℕ) → After s p (readLine (countLine key a b) (λ row. none)) q (λ row. k ≡ natAbs (getD (row .numbers) 0 (pos 0)))
+    many-after : (key : List ℕ) (a b k : ℕ) → After s p (readLine (countLine key a b) (λ row. none)) q (λ row. k ≡ natAbs (getD (row .numbers) 0 (pos 0)))
         → After s q (readRows k l rule seen []) q′ P → After s p (readPart (many key a b l rule) seen) q′ (With l seen P)
     many-after key a b k x y =
         after-bind s p q q′ (readLine (countLine key a b) (λ row. none))
@@ -75,11 +75,17 @@ module _ (s : List ℕ) (l : Line) (rule : Rule) (seen : Sheet) where
       (λ row h. after-return s q (row ∷ []) Q (row, refl, h) (a .fair)) (λ h. refl) (a .fair))
 
 -- a count line's number, as the rows below it take it
-pub count-after : {s : List ℕ} {p q : Place} {key : List ℕ} {a b count most : ℕ} → CountAfter s p (countLine key a b) q count most
+count-after : {s : List ℕ} {p q : Place} {key : List ℕ} {a b count most : ℕ} → CountAfter s p (countLine key a b) q count most
     → After s p (readLine (countLine key a b) (λ row. none)) q (λ row. count ≡ natAbs (getD (row .numbers) 0 (pos 0)))
 count-after {s} {p} {q} {key} {a} {b} {count} h =
     after-weaker s p q (readLine (countLine key a b) (λ row. none)) (λ row. pos count ≡ getD (row .numbers) 0 (pos 0))
     (λ row. count ≡ natAbs (getD (row .numbers) 0 (pos 0))) (λ row e. ap natAbs e) (h .after)
+
+-- a count line, then so many rows, is a part
+pub block-after : {s : List ℕ} {p q q′ : Place} {count most : ℕ} {P : List Row → Type 0} (key : List ℕ) (a b : ℕ) (l : Line) (rule : Rule) (seen : Sheet)
+    → CountAfter s p (countLine key a b) q count most → After s q (readRows count l rule seen []) q′ P
+    → After s p (readPart (many key a b l rule) seen) q′ (With l seen P)
+block-after {s} {p} {q} {q′} {count} {P = P} key a b l rule seen x = many-after s l rule seen p q q′ P key a b count (count-after x)
 
 -- a refused place passes through two readings
 pub pass-on : {p q r : Place} → (good p ≡ false → q ≡ p) → (good q ≡ false → r ≡ q) → good p ≡ false → r ≡ p

@@ -4,19 +4,24 @@ use Rattle.groups.proofs.Held.{lines-after}
 use Rattle.groups.proofs.all.all_lines.Statement.{statement}
 use Rattle.groups.proofs.all.all_lines.Tie as tie
 
+-- the start, from behind the loads
+abbrev start : tie.After-loading-lines → tie.Start
+start c =
+    let heading = c .before .before .before .before in
+    heading .before .before .before
+
 surface-lines-requires : tie.Need-surface-lines-requires
 surface-lines-requires c κs =
-    let first = c .before .before .before .before .before in
-    record { short = first .before .before .pre .short; fair = c .loading-lines .ensures .fair }
+    record { short = start c .pre .short; fair = c .loading-lines .ensures .fair }
 
 closing-line-requires : tie.Need-closing-line-requires
 closing-line-requires c κs =
-    let first = c .before .before .before .before .before .before in
-    record { short = first .before .before .pre .short; fair = c .surface-lines .ensures .fair }
+    record { short = start (c .before) .pre .short; fair = c .surface-lines .ensures .fair }
 
 returns : tie.Need-returns
 returns c =
-    let head = c .before .before .before .before .before .before in
+    let fields = c .before .before .before in
+    let head = fields .before .before .before in
     let closing = head .before .before in
     let surfaces = closing .before in
     let loading = surfaces .before in
@@ -25,7 +30,7 @@ returns c =
     let fuelling = drying .before in
     let heading = fuelling .before in
     let first = heading .before in
-    let a = first .before .before .args in
+    let a = start loading .args in
     rw (head .head-of .ensures)
     (record {
       after = lines-after (a .s .now) (a .start)

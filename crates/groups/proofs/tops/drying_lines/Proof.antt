@@ -8,7 +8,8 @@ use Rattle.groups.proofs.tops.drying_lines.Tie as tie
 
 returns : tie.Need-returns
 returns c =
-    let clay = c .before .before .before .before .before in
+    let fields = c .before .before .before in
+    let clay = fields .before .before in
     let water = clay .before .before in
     let ware = water .before .before in
     let air = ware .before .before in
