@@ -15,6 +15,8 @@ sum-end [] z = ring (z ∷ []) (v 0 ⊕ # 0) (# 0 ⊕ v 0) tt
 sum-end (x ∷ zs) z = ap (λ (y : ℤ). x +ℤ y) (sum-end zs z) ∙ ring (x ∷ sumOf zs ∷ z ∷ []) (v 0 ⊕ (v 1 ⊕ v 2)) ((v 0 ⊕ v 1) ⊕ v 2) tt
 
 -- one stage more
-pub gas-more : (lines : List Stage) (i : ℕ) (d : Stage) → i < length lines → sumOf (map (λ x. x .gas .0) (take (i + 1) lines)) ≡ sumOf (map (λ x. x .gas .0) (take i lines)) +ℤ getD lines i d .gas .0
+pub gas-more : (lines : List Stage) (i : ℕ) (d : Stage) → i < length lines
+    → sumOf (map (λ x. x .gas .0) (take (i + 1) lines)) ≡ sumOf (map (λ x. x .gas .0) (take i lines)) +ℤ getD lines i d .gas .0
 gas-more lines i d h =
-    rw (add-one i, take-suc lines i d h, map-append (λ (x : Stage). x .gas .0) (take i lines) (getD lines i d ∷ [])) (sum-end (map (λ x. x .gas .0) (take i lines)) (getD lines i d .gas .0))
+    rw (add-one i, take-suc lines i d h, map-append (λ (x : Stage). x .gas .0) (take i lines) (getD lines i d ∷ []))
+    (sum-end (map (λ x. x .gas .0) (take i lines)) (getD lines i d .gas .0))

@@ -2,6 +2,7 @@
 use Prim.Native.Nat.{ℕ, _≤_}
 use mathlib.Core.Logic.{⊎-elim}
 use mathlib.Core.Path.{sym, ap, _∙_}
+use mathlib.Core.List.{List}
 use native.Mathlib.Omega.{arith}
 use borrow.Author.Needs.{needs}
 use lib.ListN.{length, take}
@@ -13,7 +14,11 @@ use Rattle.reader.proofs.judged.Tie as tie
 opening-requires : tie.Need-opening-requires
 opening-requires c κs = search needs
 
-looked : (c : tie.Joined1) → Looked (length (c .before .before .before .before .args .s .now)) (c .if1 .looked)
+-- the text, from where it is known how much of it is looked at
+abbrev text : tie.Joined1 → List ℕ
+text c = let opened = c .before .before in opened .before .before .args .s .now
+
+looked : (c : tie.Joined1) → Looked (length (text c)) (c .if1 .looked)
 looked c =
     let o = c .before .before .opening in
     ⊎-elim (λ w. looked-all _ (o .result) (o .ensures) (w .0 .taken) (w .1)) (λ w. looked-none _ (o .result) (o .ensures) (w .0 .left) (w .1)) (c .if1 .came)
@@ -25,7 +30,7 @@ all-lines-requires : tie.Need-all-lines-requires
 all-lines-requires c κs =
     let o = c .before .before .before .opening in
     let l = looked (c .before) in
-    let s = c .before .before .before .before .before .args .s .now in
+    let s = text (c .before) in
     let k = c .before .if1 .looked in
     let short : length (take k s) ≤ 16384 = omega (arith, length-take-le k s (l .inside), l .few) in
     opened-ready (length s) (o .result) (o .ensures) (take k s) short
@@ -37,10 +42,12 @@ returns : tie.Need-returns
 returns c =
     let l = c .before .before in
     let j = l .before .before in
-    let s = j .before .before .before .before .args .s .now in
+    let s = text j in
+    let a = l .all-lines in
     let o = j .before .before .opening in
     rw (c .before .verdict .ensures)
-    (judgement s (take (j .if1 .looked) s) (λ h. ap (λ (k : ℕ). take k s) (looked j .whole h) ∙ take-length s) (l .all-lines .result .place) (l .all-lines .result .sheet) (rw (← (o .ensures)) (l .all-lines .ensures .after)) (l .all-lines .ensures .sized))
+    (judgement s (take (j .if1 .looked) s) (λ h. ap (λ (k : ℕ). take k s) (looked j .whole h) ∙ take-length s)
+    (a .result .place) (a .result .sheet) (rw (← (o .ensures)) (a .ensures .after)) (a .ensures .sized))
 
 pub judged-spec : {M : Type 1} → statement M
 judged-spec =

@@ -7,14 +7,17 @@ use Rattle.reader.proofs.read.Tie as tie
 
 returns : tie.Need-returns
 returns c =
-    let j = c .before .before .before .before .judged in
-    answer-good (c .before .before .before .before .before .before .args .s .now) (j .result) (j .ensures) (is-good (j .result .place) (c .before .if1 .taken))
+    let judged = c .before .before .before .before in
+    let j = judged .judged in
+    answer-good (judged .before .before .args .s .now) (j .result) (j .ensures) (is-good (j .result .place) (c .before .if1 .taken))
 
 returns-2 : tie.Need-returns-2
 returns-2 c =
-    let j = c .before .before .before .before .before .judged in
+    let bad = c .before .before in
+    let judged = bad .before .before .before in
+    let j = judged .judged in
     rw (c .rejected .ensures, c .before .refusal-of .ensures)
-    (answer-refused (c .before .before .before .before .before .before .before .args .s .now) (j .result) (j .ensures) (is-bad (j .result .place) (c .before .before .if1 .left)))
+    (answer-refused (judged .before .before .args .s .now) (j .result) (j .ensures) (is-bad (j .result .place) (bad .if1 .left)))
 
 pub read-spec : {M : Type 1} → statement M
 read-spec = tie.close (tie.spec (λ c κs. search needs) returns (λ c κs. search needs) (λ c κs. search needs) returns-2)

@@ -50,7 +50,8 @@ module _ (n : ℕ) (p : Place) (x : Sheet) where
 too-much : (p : Place) (x : Sheet) → within gasTotal (gasOf x) ≡ false → wholeAs p x ≡ refusedAt GasTotal 0
 too-much p x e = rw e
 
-by-reading : (p : Place) (x : Sheet) (t : Bool) → within gasTotal (gasOf x) ≡ true → allRead (x .readings) (x .sections .count .0) (x .stages .count .0) ≡ t → wholeAs p x ≡ cond t p (refusedAt Missing 0)
+by-reading : (p : Place) (x : Sheet) (t : Bool) → within gasTotal (gasOf x) ≡ true
+    → allRead (x .readings) (x .sections .count .0) (x .stages .count .0) ≡ t → wholeAs p x ≡ cond t p (refusedAt Missing 0)
 by-reading p x t e f = rw (e, f)
 
 returns : tie.Need-returns
@@ -64,44 +65,48 @@ returns-2 c =
     let a = d .before .before .args in
     c .refused .ensures ∙ sym (more-below (a .n) (a .p) (a .sheet) (is-good (a .p) (d .if1 .left)) (c .before .if2 .taken))
 
+-- the start, from where all bytes were read, and this place, from where the gas was summed
+abbrev start : tie.Else2 → tie.Start
+start c = c .before .before .before .before
+
+abbrev read-up : tie.After-gas-total → tie.Else2
+read-up c = c .before .before .before .before
+
+-- where the gas was found within its limits, from where the walls were looked at
+abbrev gas-good : tie.After-all-read → tie.Else3
+gas-good c = c .before .before .before .before
+
 -- all bytes were read
-all-read-up : (c : tie.Else2) → let a = c .before .before .before .before .args in verdictAs (a .n) (a .p) (a .sheet) ≡ wholeAs (a .p) (a .sheet)
+all-read-up : (c : tie.Else2) → let a = start c .args in verdictAs (a .n) (a .p) (a .sheet) ≡ wholeAs (a .p) (a .sheet)
 all-read-up c =
     let d = c .before .before in
-    let a = d .before .before .args in
+    let a = start c .args in
     all-passed (a .n) (a .p) (a .sheet) (is-good (a .p) (d .if1 .left)) (c .if2 .left)
 
 returns-3 : tie.Need-returns-3
 returns-3 c =
     let d = c .before .before .before in
     let g = d .before in
-    let u = g .before .before .before .before in
-    let a = u .before .before .before .before .args in
+    let a = start (read-up g) .args in
     let w = summed (g .gas-total .ensures) (faulty _ _ (fault-within _ _ _ (d .checked .ensures)) (c .before .if3 .taken)) in
-    c .refused2 .ensures ∙ sym (all-read-up u ∙ too-much (a .p) (a .sheet) w)
+    c .refused2 .ensures ∙ sym (all-read-up (read-up g) ∙ too-much (a .p) (a .sheet) w)
 
--- the gas is within its limits
-gas-good : (c : tie.Else3) → within gasTotal (gasOf (c .before .before .before .before .before .before .before .before .before .before .before .args .sheet)) ≡ true
-gas-good c =
-    let d = c .before .before in
+-- the gas is within its limits, and each wall has been looked at
+by-walls : (r : tie.After-all-read) (t : Bool) → r .all-read .result ≡ t
+    → let a = start (read-up (gas-good r .before .before .before)) .args in
+    cond t (a .p) (refusedAt Missing 0) ≡ verdictAs (a .n) (a .p) (a .sheet)
+by-walls r t e =
+    let d = gas-good r .before .before in
     let g = d .before in
-    summed (g .gas-total .ensures) (clean _ _ (fault-within _ _ _ (d .checked .ensures)) (c .if3 .left))
+    let a = start (read-up g) .args in
+    let w = summed (g .gas-total .ensures) (clean _ _ (fault-within _ _ _ (d .checked .ensures)) (gas-good r .if3 .left)) in
+    sym (all-read-up (read-up g) ∙ by-reading (a .p) (a .sheet) t w (sym (r .all-read .ensures) ∙ e))
 
 returns-4 : tie.Need-returns-4
-returns-4 c =
-    let r = c .before in
-    let h = r .before .before .before .before in
-    let u = h .before .before .before .before .before .before .before in
-    let a = u .before .before .before .before .args in
-    sym (all-read-up u ∙ by-reading (a .p) (a .sheet) true (gas-good h) (sym (r .all-read .ensures) ∙ c .if4 .taken))
+returns-4 c = by-walls (c .before) true (c .if4 .taken)
 
 returns-5 : tie.Need-returns-5
-returns-5 c =
-    let r = c .before .before in
-    let h = r .before .before .before .before in
-    let u = h .before .before .before .before .before .before .before in
-    let a = u .before .before .before .before .args in
-    c .refused3 .ensures ∙ sym (all-read-up u ∙ by-reading (a .p) (a .sheet) false (gas-good h) (sym (r .all-read .ensures) ∙ c .before .if4 .left))
+returns-5 c = c .refused3 .ensures ∙ by-walls (c .before .before) false (c .before .if4 .left)
 
 pub verdict-spec : {M : Type 1} → statement M
 verdict-spec =
