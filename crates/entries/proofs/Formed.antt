@@ -53,7 +53,8 @@ module _ (s : List ℕ) (p : Place) (key : List ℕ) (n : ℕ) (r : Ready s p) (
   text = drop (p .at) s
 
   -- a line that is handed out as refused is refused
-  refused-cases : (P : Row → Type 0) (j : Judged) → formedBy key n text ≡ j → handed (p .at) j .next ≡ 0 → Meets s (judged j (λ row. none) (p .line) text) (refusedAt (handed (p .at) j .refusal) (p .line)) P
+  refused-cases : (P : Row → Type 0) (j : Judged) → formedBy key n text ≡ j → handed (p .at) j .next ≡ 0
+      → Meets s (judged j (λ row. none) (p .line) text) (refusedAt (handed (p .at) j .refusal) (p .line)) P
   refused-cases P (refused x) q e = refl
   refused-cases P (values row size) q e = let f = in-form key n text row size q in absurd (omega (arith, f .some))
 
@@ -67,7 +68,8 @@ module _ (s : List ℕ) (p : Place) (key : List ℕ) (n : ℕ) (r : Ready s p) (
 
   -- one that is handed out with numbers is read, and they are its row's
   read-cases : (j : Judged) → formedBy key n text ≡ j → (handed (p .at) j .next ≡ 0 → ⊥)
-      → Meets s (judged j (λ row. none) (p .line) text) (goingOn (p .line) (handed (p .at) j .next)) (λ row. (handed (p .at) j .values ≡ sets zeros 0 (row .numbers)) × (length (row .numbers) ≡ n))
+      → Meets s (judged j (λ row. none) (p .line) text) (goingOn (p .line) (handed (p .at) j .next))
+      (λ row. (handed (p .at) j .values ≡ sets zeros 0 (row .numbers)) × (length (row .numbers) ≡ n))
       × Fair s (goingOn (p .line) (handed (p .at) j .next))
   read-cases (refused x) q e = absurd (e refl)
   read-cases (values row size) q e =
@@ -85,7 +87,8 @@ module _ (s : List ℕ) (p : Place) (key : List ℕ) (n : ℕ) (r : Ready s p) (
       rw e (record { reads = λ x. c .0; passes = λ x. not-both (good p) yes x; fair = λ x. c .1 })
 
 -- the numbers taken out of the array
-pub due-form : (s : List ℕ) (p : Place) (key : List ℕ) (n : ℕ) (q : Place) (v : List ℤ) (w : List Number) → n ≤ 13 → plainNumbers w ≡ v → FormAfter s p key n q v
+pub due-form : (s : List ℕ) (p : Place) (key : List ℕ) (n : ℕ) (q : Place) (v : List ℤ) (w : List Number) → n ≤ 13 → plainNumbers w ≡ v
+    → FormAfter s p key n q v
     → After s p (readForm key n) q (λ row. from 0 n w ≡ row .numbers)
 due-form s p key n q v w h e a =
     after-weaker s p q (readForm key n) (λ row. (v ≡ sets zeros 0 (row .numbers)) × (length (row .numbers) ≡ n)) (λ row. from 0 n w ≡ row .numbers)

@@ -104,7 +104,8 @@ module _ (s : List ℕ) (p q : Place) (l : Line) (P : Row → Type 0) (fault : �
       → Meets s (judged j (λ row. none) n text) q P → Meets s (judged (schema.ranged (l .fields) j) (λ row. none) n text) (ranged n q fault) InRange
   range-cases n text (refused r) e f m = test-off s q n (not (eqb fault 0)) (Outside fault) P r n m
   range-cases n text (values row size) e f m =
-      here (outsideOf 1 (l .fields) (row .numbers)) refl (f row (m .1) (in-form (l .key ++ bytes "=") (length (l .fields)) text row size e .count) ∙ fault-is 1 (l .fields) (row .numbers))
+      here (outsideOf 1 (l .fields) (row .numbers)) refl
+      (f row (m .1) (in-form (l .key ++ bytes "=") (length (l .fields)) text row size e .count) ∙ fault-is 1 (l .fields) (row .numbers))
     where
       here : (o : Option ℕ) → outsideOf 1 (l .fields) (row .numbers) ≡ o → fault ≡ on (outsideOf 1 (l .fields) (row .numbers)) 0 (λ i. i)
           → Meets s (judged (on o (values row size) (λ i. refused (Outside i))) (λ row. none) n text) (ranged n q fault) InRange
@@ -137,7 +138,8 @@ module _ (s : List ℕ) (p q : Place) (l : Line) (P : Row → Type 0) (rule : Ro
   rule-cases n text (refused r) f m = test-off s q n broken why P r n m
   rule-cases n text (values row size) f m = here broken refl (rule row) refl
     where
-      here : (t : Bool) → broken ≡ t → (o : Option Refusal) → rule row ≡ o → Meets s (on o (got row (suc n) (drop size text)) (λ r. stopped r n)) (ruled n q broken why) Kept
+      here : (t : Bool) → broken ≡ t → (o : Option Refusal) → rule row ≡ o
+          → Meets s (on o (got row (suc n) (drop size text)) (λ r. stopped r n)) (ruled n q broken why) Kept
       here true e o u =
           let w : o ≡ some why = sym u ∙ f row (m .1) ∙ ap (λ (t : Bool). when t why) e in
           rw w (test-failed s q n broken why P (suc n) (drop size text) e (m .0))
@@ -146,7 +148,8 @@ module _ (s : List ℕ) (p q : Place) (l : Line) (P : Row → Type 0) (rule : Ro
           rw w (test-passed s q n broken why Kept row (suc n) (drop size text) e (m .0) (m .1, u ∙ w))
 
   -- a line in range, and then its rule
-  pub ruled-after : ((row : Row) → P row → rule row ≡ when broken why) → After s p (readLine l (λ row. none)) q P → After s p (readLine l rule) (ruled (p .line) q broken why) Kept
+  pub ruled-after : ((row : Row) → P row → rule row ≡ when broken why) → After s p (readLine l (λ row. none)) q P
+      → After s p (readLine l rule) (ruled (p .line) q broken why) Kept
   unfolding readLine
   ruled-after f a = record {
     reads = λ h. rule-cases (p .line) (drop (p .at) s) (judge l (drop (p .at) s)) f (a .reads h);
@@ -163,5 +166,6 @@ line-after s p q l v fault Shown a t =
     let zs = from 0 (length (l .fields)) v in
     let P : Row → Type 0 = λ row. zs ≡ row .numbers in
     after-weaker s p (ranged (p .line) q fault) (readLine l (λ row. none)) (InRange s p q l P fault) (λ row. Shown (row .numbers))
-    (λ row h. subst Shown (h .0) (t .shown (t .first ∙ fault-is 1 (l .fields) zs ∙ ap (λ (o : Option ℕ). on o 0 (λ i. i)) (ap (λ (x : List ℤ). outsideOf 1 (l .fields) x) (h .0) ∙ h .1))))
+    (λ row h. subst Shown (h .0) (t .shown (t .first ∙ fault-is 1 (l .fields) zs
+    ∙ ap (λ (o : Option ℕ). on o 0 (λ i. i)) (ap (λ (x : List ℤ). outsideOf 1 (l .fields) x) (h .0) ∙ h .1))))
     (ranged-after s p q l P fault (λ row e n. t .first ∙ ap (λ (x : List ℤ). faultOf 1 (l .fields) x) e) a)

@@ -75,7 +75,8 @@ module _ {A B : Type 0} (s : List ℕ) (p q q′ : Place) (m : Reader A) (f : A 
       subst (λ (x : List ℕ). Meets s (f a n x) q′ Q) (h .0 .left) v
 
   -- m from p to q, then f from q to q′, is m and then f from p to q′
-  pub after-bind : After s p m q P → ((a : A) → P a → After s q (f a) q′ Q) → (good q ≡ false → q′ ≡ q) → (good q′ ≡ true → Fair s q′) → After s p (λ n t. andThen (m n t) f) q′ Q
+  pub after-bind : After s p m q P → ((a : A) → P a → After s q (f a) q′ Q) → (good q ≡ false → q′ ≡ q) → (good q′ ≡ true → Fair s q′)
+      → After s p (λ n t. andThen (m n t) f) q′ Q
   after-bind a k g fair = record {
     reads = λ h. bind-cases (m (p .line) (drop (p .at) s)) (a .reads h) k g;
     passes = λ h. let e = a .passes h in g (ap (λ (y : Place). good y) e ∙ h) ∙ e;

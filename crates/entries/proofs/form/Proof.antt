@@ -15,27 +15,37 @@ use Rattle.entries.proofs.form.Tie as tie
 row-requires : tie.Need-row-requires
 row-requires c κs = search needs
 
+-- the start, from where the place is good, and this place, from where the row is read
+abbrev start : tie.Then1 → tie.Start
+start c = c .before .before .before .before
+
+abbrev sound : tie.Then3 → tie.Then1
+sound c = c .before .before .before .before
+
 onward-requires : tie.Need-onward-requires
 onward-requires c κs =
-    let g = c .before .before .before .before in
-    let a = g .before .before .before .before in
-    let f = a .pre .1 .0 .fair (is-good (a .args .p) (g .if1 .taken)) in
+    let a = start (sound c) in
+    let f = a .pre .1 .0 .fair (is-good (a .args .p) (sound c .if1 .taken)) in
     omega (arith, f .line, f .within, a .pre .1 .0 .short)
 
 returns : tie.Need-returns
 returns c =
-    let g = c .before .before .before .before .before in
+    let seen = c .before in
+    let r = seen .before .row in
+    let g = seen .before .before .before .before in
     let a = g .before .before .before .before in
-    let k = a .pre .1 .1 .0 (c .before .before .before .before .if2 .taken) in
-    let r = c .before .before .row in
-    rw (c .onward .ensures) (form-read (a .args .s .now) (a .args .p) (a .args .key .now) (a .args .n) (a .pre .1 .0) (is-good (a .args .p) (g .if1 .taken)) (accepted (r .result) _) (r .ensures .0 (c .before .if3 .taken) ∙ rw (k .1, a .pre .1 .1 .1) (sym (keyed-line _ _ _ _ (k .0)))) (c .before .if3 .taken))
+    let k = a .pre .1 .1 .0 (seen .before .before .before .if2 .taken) in
+    rw (c .onward .ensures)
+    (form-read (a .args .s .now) (a .args .p) (a .args .key .now) (a .args .n) (a .pre .1 .0) (is-good (a .args .p) (g .if1 .taken))
+    (accepted (r .result) _) (r .ensures .0 (seen .if3 .taken) ∙ rw (k .1, a .pre .1 .1 .1) (sym (keyed-line _ _ _ _ (k .0)))) (seen .if3 .taken))
 
 careful-requires : tie.Need-careful-requires
 careful-requires c κs =
     let g = c .before .before in
-    let a = g .before .before .before .before in
+    let a = start g in
     let size : length (a .args .v .now) ≡ 13 = ap length (a .pre .1 .1 .1) in
-    (a .pre .0, (a .pre .1 .0, (is-good (a .args .p) (g .if1 .taken), ⊎-elim (λ w. ap length (w .4) ∙ w .2 .ensures .1 ∙ size) (λ w. ap length (w .1) ∙ size) (c .before .if2 .came))))
+    let kept = ⊎-elim (λ w. ap length (w .4) ∙ w .2 .ensures .1 ∙ size) (λ w. ap length (w .1) ∙ size) (c .before .if2 .came) in
+    (a .pre .0, (a .pre .1 .0, (is-good (a .args .p) (g .if1 .taken), kept)))
 
 returns-2 : tie.Need-returns-2
 returns-2 c = search needs

@@ -14,7 +14,8 @@ use mir.Val.{toZ, ofZ}
 use Rattle.entries.proofs.lay.Statement.{statement}
 use Rattle.entries.proofs.lay.Tie as tie
 
-one-more : (v numbers : List ℤ) (i : ℕ) (x : ℤ) → i < length v → i < length numbers → x ≡ getD numbers i (pos 0) → take i v ≡ take i numbers → take (i + 1) (set v i x) ≡ take (i + 1) numbers
+one-more : (v numbers : List ℤ) (i : ℕ) (x : ℤ) → i < length v → i < length numbers → x ≡ getD numbers i (pos 0) → take i v ≡ take i numbers
+    → take (i + 1) (set v i x) ≡ take (i + 1) numbers
 one-more v numbers i x h k e q = rw (add-one i, take-suc-set v i x h, take-suc numbers i (pos 0) k, q, e)
 
 abbrev Inv-loop : tie.InvT-loop

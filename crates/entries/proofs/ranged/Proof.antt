@@ -14,7 +14,9 @@ use Rattle.entries.proofs.ranged.Tie as tie
 returns : tie.Need-returns
 returns c =
     let a = c .before .before .before .before .args in
-    c .refused .ensures ∙ sym (met-both (a .line) (a .q) (Outside (a .fault)) (good (a .q)) (not (eqb (a .fault) 0)) (is-good (a .q) (c .before .before .if1 .taken)) (ap not (ne-eqb (a .fault) 0 (c .before .if2 .taken))))
+    c .refused .ensures
+    ∙ sym (met-both (a .line) (a .q) (Outside (a .fault)) (good (a .q)) (not (eqb (a .fault) 0)) (is-good (a .q) (c .before .before .if1 .taken))
+    (ap not (ne-eqb (a .fault) 0 (c .before .if2 .taken))))
 
 returns-2 : tie.Need-returns-2
 returns-2 c =

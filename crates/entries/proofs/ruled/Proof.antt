@@ -10,7 +10,8 @@ use Rattle.entries.proofs.ruled.Tie as tie
 returns : tie.Need-returns
 returns c =
     let a = c .before .before .before .before .args in
-    c .refused .ensures ∙ sym (met-both (a .line) (a .q) (a .why) (good (a .q)) (a .broken) (is-good (a .q) (c .before .before .if1 .taken)) (c .before .if2 .taken))
+    c .refused .ensures
+    ∙ sym (met-both (a .line) (a .q) (a .why) (good (a .q)) (a .broken) (is-good (a .q) (c .before .before .if1 .taken)) (c .before .if2 .taken))
 
 returns-2 : tie.Need-returns-2
 returns-2 c =

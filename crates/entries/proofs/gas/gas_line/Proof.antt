@@ -26,15 +26,18 @@ returns c =
     let g = c .before .before .before in
     let t = g .before .gas-of in
     let n = g .before .before .numbers2 in
-    let f = g .before .before .before .form in
-    let a = g .before .before .before .before .before .before .before .before .before in
+    let formed = g .before .before .before in
+    let f = formed .form in
+    let behind = formed .before .before .before in
+    let a = behind .before .before .before in
     let shown = shares (t .result .gas) in
     let whole : List ℤ → Bool = λ zs. not (same (sumOf zs) (pos 10000) && ltZ (pos 0) (weigh airWeights zs)) in
     let d = due-form (a .args .s .now) (a .args .p) _ 13 (f .result) _ (n .result) (lit≤ tt) (n .ensures) (f .ensures) in
     rw (c .ruled .ensures)
     (after-left (ruled-after (a .args .s .now) (a .args .p) (g .ranged .result) gasLine (λ row. shown ≡ row .numbers) (gas-rule []) (u .result) Shares
     (λ row h. sym (ap (λ (t : Bool). when t Shares) (u .ensures ∙ ap whole h)))
-    (rw (g .ranged .ensures) (line-after (a .args .s .now) (a .args .p) (f .result) gasLine (n .result) (t .result .fault) (λ zs. shown ≡ zs) d (t .ensures .takes)))))
+    (rw (g .ranged .ensures)
+    (line-after (a .args .s .now) (a .args .p) (f .result) gasLine (n .result) (t .result .fault) (λ zs. shown ≡ zs) d (t .ensures .takes)))))
 
 pub gas-line-spec : {M : Type 1} → statement M
 gas-line-spec =

@@ -26,30 +26,28 @@ weigh-ones (suc n) (z ∷ zs) h = ap₂ _+ℤ_ (one-*ℤ z) (weigh-ones n zs (om
 joined : (full burns : Bool) (t u : Bool) → full ≡ t → burns ≡ u → not (full && burns) ≡ not (t && u)
 joined full burns t u e f = rw (e, f)
 
-module _ (gas : List Share) (few : length gas ≡ 13) {sum air : ℤ} {full burns : Bool} (s : sum ≡ weigh (replicate 13 (pos 1)) (shares gas)) (a : air ≡ weigh airWeights (shares gas))
+module _ (gas : List Share) (few : length gas ≡ 13) {sum air : ℤ} {full burns : Bool}
+    (s : sum ≡ weigh (replicate 13 (pos 1)) (shares gas)) (a : air ≡ weigh airWeights (shares gas))
     (f : full ≡ same sum (pos 10000)) (b : burns ≡ ltZ (pos 0) air) where
   tests : not (full && burns) ≡ not (same (sumOf (shares gas)) (pos 10000) && ltZ (pos 0) (weigh airWeights (shares gas)))
   tests =
       let one = weigh-ones 13 (shares gas) (omega (arith, length-map gas (λ (x : Share). x .0))) in
       joined full burns _ _ (f ∙ ap (λ (z : ℤ). same z (pos 10000)) (s ∙ one)) (b ∙ ap (λ (z : ℤ). ltZ (pos 0) z) a)
 
+-- the definition's test by the code's two
+by-tests : (c : tie.After-any) → let g = c .before .before .before .before .args .gas in
+    not (c .before .before .whole .result && c .any .result) ≡ not (same (sumOf (shares g)) (pos 10000) && ltZ (pos 0) (weigh airWeights (shares g)))
+by-tests c =
+    let w = c .before in
+    let f = w .before in
+    let o = f .before in
+    tests (o .before .args .gas) (omega arith) (o .weighed .ensures) (w .weighed2 .ensures) (f .whole .ensures) (c .any .ensures)
+
 returns : tie.Need-returns
-returns c =
-    let n = c .before .any in
-    let w = c .before .before .weighed2 in
-    let f = c .before .before .before .whole in
-    let o = c .before .before .before .before .weighed in
-    let g = c .before .before .before .before .before .args .gas in
-    ap (λ (t : Bool). not (t && n .result)) (sym (c .if1 .taken)) ∙ tests g (omega arith) (o .ensures) (w .ensures) (f .ensures) (n .ensures)
+returns c = ap (λ (t : Bool). not (t && c .before .any .result)) (sym (c .if1 .taken)) ∙ by-tests (c .before)
 
 returns-2 : tie.Need-returns-2
-returns-2 c =
-    let n = c .before .any in
-    let w = c .before .before .weighed2 in
-    let f = c .before .before .before .whole in
-    let o = c .before .before .before .before .weighed in
-    let g = c .before .before .before .before .before .args .gas in
-    ap (λ (t : Bool). not (t && n .result)) (sym (c .if1 .left)) ∙ tests g (omega arith) (o .ensures) (w .ensures) (f .ensures) (n .ensures)
+returns-2 c = ap (λ (t : Bool). not (t && c .before .any .result)) (sym (c .if1 .left)) ∙ by-tests (c .before)
 
 pub unburnable-spec : {M : Type 1} → statement M
 unburnable-spec = tie.close (tie.spec (λ c κs. search needs) (λ c κs. search needs) (λ c κs. search needs) (λ c κs. search needs) returns returns-2)

@@ -21,7 +21,8 @@ use Rattle.entries.proofs.gas.weighed.Statement.{statement}
 use Rattle.entries.proofs.gas.weighed.Tie as tie
 
 abbrev Inv-loop : tie.InvT-loop
-Inv-loop gas weights sum₀ i₀ sum i = (i ≤ 13) × (natAbs (sum .0) ≤ i * 130000) × (sum .0 +ℤ weigh (drop i weights) (drop i (shares gas)) ≡ weigh weights (shares gas))
+Inv-loop gas weights sum₀ i₀ sum i =
+    (i ≤ 13) × (natAbs (sum .0) ≤ i * 130000) × (sum .0 +ℤ weigh (drop i weights) (drop i (shares gas)) ≡ weigh weights (shares gas))
 
 abbrev μ-loop : tie.MeasureT-loop
 μ-loop gas weights sum₀ i₀ sum i = 13 - i
@@ -45,35 +46,35 @@ module _ (gas : List Share) (weights : List ℤ) (sum : ℤ) (i : ℕ) (h : i < 
 loop-holds : tie.Need-loop-holds Inv-loop μ-loop
 loop-holds c = (omega arith, omega arith, +ℤ-idl _)
 
+-- the turn in which a share is looked at, and what is known of it, of its weight and of the sum
+abbrev turn : tie.After-struct-told Inv-loop μ-loop → tie.At-loop Inv-loop μ-loop
+turn c = let weight = c .before .before in weight .before .before .before
+
+abbrev known : tie.After-struct-told Inv-loop μ-loop → List Known
+known c =
+    let at = turn c .loop in
+    let a = turn c .before in
+    ks (a .args .t1) (a .args .t2) (at .sum .0) (at .i) (omega arith) (omega arith) (omega arith) (a .pre .0) (a .pre .1) (at .inv .1)
+
 cast-t16 : tie.Need-cast-t16 Inv-loop μ-loop
-cast-t16 c =
-    let at = c .before .before .before .before .before .loop in
-    let a = c .before .before .before .before .before .before in
-    fits (ks (a .args .t1) (a .args .t2) (at .sum .0) (at .i) (omega arith) (omega arith) (omega arith) (a .pre .0) (a .pre .1) (at .inv .1)) w64 (from w32 (arg 1)) tt
+cast-t16 c = fits (known c) w64 (from w32 (arg 1)) tt
 
 mul-t17 : tie.Need-mul-t17 Inv-loop μ-loop
-mul-t17 c =
-    let at = c .before .before .before .before .before .loop in
-    let a = c .before .before .before .before .before .before in
-    fits (ks (a .args .t1) (a .args .t2) (at .sum .0) (at .i) (omega arith) (omega arith) (omega arith) (a .pre .0) (a .pre .1) (at .inv .1)) w64 (arg 0 ⟨*⟩ from w32 (arg 1)) tt
+mul-t17 c = fits (known c) w64 (arg 0 ⟨*⟩ from w32 (arg 1)) tt
 
 add-t18 : tie.Need-add-t18 Inv-loop μ-loop
-add-t18 c =
-    let at = c .before .before .before .before .before .before .before .loop in
-    let a = c .before .before .before .before .before .before .before .before in
-    fits (ks (a .args .t1) (a .args .t2) (at .sum .0) (at .i) (omega arith) (omega arith) (omega arith) (a .pre .0) (a .pre .1) (at .inv .1)) w64 (arg 2 ⟨+⟩ arg 0 ⟨*⟩ from w32 (arg 1)) tt
+add-t18 c = fits (known (c .before .before)) w64 (arg 2 ⟨+⟩ arg 0 ⟨*⟩ from w32 (arg 1)) tt
 
 loop-again : tie.Need-loop-again Inv-loop μ-loop
 loop-again c =
-    let at = c .before .before .before .before .before .before .before .loop in
-    let a = c .before .before .before .before .before .before .before .before in
-    let gas = a .args .t1 in
-    let weights = a .args .t2 in
+    let told = c .before .before in
+    let at = turn told .loop in
+    let gas = turn told .before .args .t1 in
+    let weights = turn told .before .args .t2 in
     let w = getD weights (at .i) (pos 0) in
     let x = getD gas (at .i) (record { 0 = pos 0 }) .0 in
-    let known = ks gas weights (at .sum .0) (at .i) (omega arith) (omega arith) (omega arith) (a .pre .0) (a .pre .1) (at .inv .1) in
-    let r = result known w64 (arg 2 ⟨+⟩ arg 0 ⟨*⟩ from w32 (arg 1)) tt in
-    let more : natAbs (w *ℤ x) ≤ 130000 = bound known (arg 0 ⟨*⟩ from w32 (arg 1)) tt in
+    let r = result (known told) w64 (arg 2 ⟨+⟩ arg 0 ⟨*⟩ from w32 (arg 1)) tt in
+    let more : natAbs (w *ℤ x) ≤ 130000 = bound (known told) (arg 0 ⟨*⟩ from w32 (arg 1)) tt in
     let step = weigh-step weights gas (at .i) (omega arith) (omega arith) in
     let rest = weigh (drop (at .i + 1) weights) (drop (at .i + 1) (shares gas)) in (
       omega arith,
@@ -92,4 +93,5 @@ returns c =
 pub weighed-spec : {M : Type 1} → statement M
 weighed-spec =
     tie.close
-    (tie.spec Inv-loop μ-loop loop-holds (λ c. search needs) (λ c. search needs) (λ c. search needs) (λ c. search needs) cast-t16 mul-t17 add-t18 (λ c. search needs) (λ c. omega arith) loop-again returns)
+    (tie.spec Inv-loop μ-loop loop-holds (λ c. search needs) (λ c. search needs) (λ c. search needs) (λ c. search needs) cast-t16 mul-t17 add-t18
+    (λ c. search needs) (λ c. omega arith) loop-again returns)

@@ -12,7 +12,8 @@ use Rattle.entries.proofs.gas.whole.Tie as tie
 
 returns : tie.Need-returns
 returns c =
-    let x = c .before .before .before .before .before .args .sum in
+    let low = c .before .before in
+    let x = low .before .before .before .args .sum in
     let fits : SFits w64 (x .0) = search needs in
     let v = toZ-ofZ fits in
     let low : leZ (x .0) (pos 10000) ≡ true = cc in
