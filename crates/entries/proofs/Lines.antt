@@ -24,7 +24,7 @@ use Rattle.entries.specs.Place.{good, refusedAt, Fair, Stands, Meets, Af
 use Rattle.limits.specs.declared.Number.{Number}
 use Rattle.amounts.specs.Taking.{from, faultOf, Taken}
 use Rattle.entries.specs.Form.{formOf}
-use Rattle.entries.proofs.Places.{not-both, refused-bad, after-weaker}
+use Rattle.entries.proofs.Places.{not-both, refused-bad, after-weaker, after-left}
 use Rattle.amounts.proofs.Ranges.{fault-is, outside-some}
 
 -- ---- a line in form
@@ -169,3 +169,12 @@ line-after s p q l v fault Shown a t =
     (λ row h. subst Shown (h .0) (t .shown (t .first ∙ fault-is 1 (l .fields) zs
     ∙ ap (λ (o : Option ℕ). on o 0 (λ i. i)) (ap (λ (x : List ℤ). outsideOf 1 (l .fields) x) (h .0) ∙ h .1))))
     (ranged-after s p q l P fault (λ row e n. t .first ∙ ap (λ (x : List ℤ). faultOf 1 (l .fields) x) e) a)
+
+-- and then its rule
+pub ruled-line : {s : List ℕ} {p q q₁ q₂ : Place} {fault : ℕ} (l : Line) (v : List Number) (Shown : List ℤ → Type 0)
+    (rule : Row → Option Refusal) (broken : Bool) (why : Refusal) → After s p (formOf l) q (λ row. from 0 (length (l .fields)) v ≡ row .numbers)
+    → Taken (l .fields) (from 0 (length (l .fields)) v) fault (Shown (from 0 (length (l .fields)) v)) → q₁ ≡ ranged (p .line) q fault
+    → ((row : Row) → Shown (row .numbers) → rule row ≡ when broken why) → q₂ ≡ ruled (p .line) q₁ broken why
+    → After s p (readLine l rule) q₂ (λ row. Shown (row .numbers))
+ruled-line {s} {p} {q} {q₁} {fault = fault} l v Shown rule broken why a t e f g =
+    rw g (after-left (ruled-after s p q₁ l (λ row. Shown (row .numbers)) rule broken why f (rw e (line-after s p q l v fault Shown a t))))

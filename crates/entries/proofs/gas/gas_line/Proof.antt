@@ -11,8 +11,7 @@ use Rattle.sheet.specs.Shown.{same}
 use Rattle.lines.specs.Tests.{when, sumOf, weigh, airWeights, gas-rule}
 use Rattle.lines.specs.Document01.{gasLine}
 use Rattle.amounts.specs.Taking.{shares}
-use Rattle.entries.proofs.Places.{after-left}
-use Rattle.entries.proofs.Lines.{line-after, ruled-after}
+use Rattle.entries.proofs.Lines.{ruled-line}
 use Rattle.entries.proofs.Formed.{due-form}
 use Rattle.entries.proofs.gas.gas_line.Statement.{statement}
 use Rattle.entries.proofs.gas.gas_line.Tie as tie
@@ -23,21 +22,14 @@ unburnable-requires c κs = c .before .before .gas-of .ensures .small
 returns : tie.Need-returns
 returns c =
     let u = c .before .unburnable in
-    let g = c .before .before .before in
-    let t = g .before .gas-of in
-    let n = g .before .before .numbers2 in
-    let formed = g .before .before .before in
-    let f = formed .form in
-    let behind = formed .before .before .before in
-    let a = behind .before .before .before in
-    let shown = shares (t .result .gas) in
+    let ranged = c .before .before .before in
+    let t = ranged .before .gas-of in
+    let n = ranged .before .before .numbers2 in
+    let f = ranged .before .before .before .form in
     let whole : List ℤ → Bool = λ zs. not (same (sumOf zs) (pos 10000) && ltZ (pos 0) (weigh airWeights zs)) in
-    let d = due-form (a .args .s .now) (a .args .p) _ 13 (f .result) _ (n .result) (lit≤ tt) (n .ensures) (f .ensures) in
-    rw (c .ruled .ensures)
-    (after-left (ruled-after (a .args .s .now) (a .args .p) (g .ranged .result) gasLine (λ row. shown ≡ row .numbers) (gas-rule []) (u .result) Shares
-    (λ row h. sym (ap (λ (t : Bool). when t Shares) (u .ensures ∙ ap whole h)))
-    (rw (g .ranged .ensures)
-    (line-after (a .args .s .now) (a .args .p) (f .result) gasLine (n .result) (t .result .fault) (λ zs. shown ≡ zs) d (t .ensures .takes)))))
+    ruled-line gasLine (n .result) (λ zs. shares (t .result .gas) ≡ zs) (gas-rule []) (u .result) Shares
+    (due-form _ _ _ 13 (f .result) _ (n .result) (lit≤ tt) (n .ensures) (f .ensures)) (t .ensures .takes) (ranged .ranged .ensures)
+    (λ row h. sym (ap (λ (t : Bool). when t Shares) (u .ensures ∙ ap whole h))) (c .ruled .ensures)
 
 pub gas-line-spec : {M : Type 1} → statement M
 gas-line-spec =

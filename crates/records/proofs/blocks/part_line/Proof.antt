@@ -11,23 +11,23 @@ use Rattle.lines.specs.Tests.{when, material-rule}
 use Rattle.lines.specs.Document01.{partLine}
 use Rattle.lines.specs.Rows.{partOf}
 use Rattle.amounts.specs.Taking.{unsuited}
-use Rattle.entries.proofs.Places.{after-left}
-use Rattle.entries.proofs.Lines.{line-after, ruled-after}
+use Rattle.entries.proofs.Lines.{ruled-line}
 use Rattle.records.proofs.blocks.part_line.Statement.{statement}
 use Rattle.records.proofs.blocks.part_line.Tie as tie
 
 returns : tie.Need-returns
 returns c =
     let u = c .before .unsuited in
-    let g = c .before .before .before .before in
-    let t = g .before .before .part-of in
-    let d = g .before .before .before .before .due in
-    let a = g .before .before .before .before .before .before .before .args in
-    let shown = t .result .part in
-    rw (c .ruled .ensures)
-    (after-left (ruled-after (a .s .now) (a .p) (g .ranged .result) partLine (λ row. part shown ≡ partOf row) (material-rule 1 []) (u .result) (Material 2)
-    (λ row h. sym (ap (λ (t : Bool). when t (Material 2)) (u .ensures ∙ ap (λ (x : Part). unsuited (x .stuff)) h)))
-    (rw (g .ranged .ensures) (line-after (a .s .now) (a .p) (d .result .place) partLine (d .result .values) (t .result .fault) (λ zs. part shown ≡ partOf (plain zs)) (d .ensures) (t .ensures)))))
+    let ranged = c .before .before .before .before in
+    let taken = ranged .before .before in
+    let t = taken .part-of in
+    let d = taken .before .before .due in
+    ruled-line partLine (d .result .values) (λ zs. part (t .result .part) ≡ partOf (plain zs)) (material-rule 1 []) (u .result) (Material 2)
+    (d .ensures) (t .ensures) (ranged .ranged .ensures)
+    (λ row h. sym (ap (λ (t : Bool). when t (Material 2)) (u .ensures ∙ ap (λ (x : Part). unsuited (x .stuff)) h))) (c .ruled .ensures)
 
 pub part-line-spec : {M : Type 1} → statement M
-part-line-spec = tie.close (tie.spec (λ c. search needs) (λ c κs. search needs) (λ c κs. search needs) (λ c κs. search needs) (λ c κs. search needs) (λ c κs. search needs) returns)
+part-line-spec =
+    tie.close
+    (tie.spec (λ c. search needs) (λ c κs. search needs) (λ c κs. search needs) (λ c κs. search needs) (λ c κs. search needs)
+    (λ c κs. search needs) returns)

@@ -11,11 +11,11 @@ use Rattle.records.proofs.blocks.section_line.Tie as tie
 
 returns : tie.Need-returns
 returns c =
-    let r = c .before .ranged in
-    let t = c .before .before .before .section-of in
-    let d = c .before .before .before .before .before .due in
-    let a = c .before .before .before .before .before .before .before .before .args in
-    rw (r .ensures) (line-after (a .s .now) (a .p) (d .result .place) sectionLine (d .result .values) (t .result .fault) (λ zs. section (t .result .section) ≡ sectionOf (plain zs)) (d .ensures) (t .ensures))
+    let taken = c .before .before .before in
+    let t = taken .section-of in
+    let d = taken .before .before .due in
+    rw (c .before .ranged .ensures)
+    (line-after _ _ _ sectionLine (d .result .values) _ (λ zs. section (t .result .section) ≡ sectionOf (plain zs)) (d .ensures) (t .ensures))
 
 pub section-line-spec : {M : Type 1} → statement M
 section-line-spec = tie.close (tie.spec (λ c. search needs) (λ c κs. search needs) (λ c κs. search needs) (λ c κs. search needs) returns)

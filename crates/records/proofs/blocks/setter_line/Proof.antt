@@ -11,23 +11,23 @@ use Rattle.lines.specs.Tests.{when, material-rule}
 use Rattle.lines.specs.Document01.{setterLine}
 use Rattle.lines.specs.Rows.{setterOf}
 use Rattle.amounts.specs.Taking.{unsuited}
-use Rattle.entries.proofs.Places.{after-left}
-use Rattle.entries.proofs.Lines.{line-after, ruled-after}
+use Rattle.entries.proofs.Lines.{ruled-line}
 use Rattle.records.proofs.blocks.setter_line.Statement.{statement}
 use Rattle.records.proofs.blocks.setter_line.Tie as tie
 
 returns : tie.Need-returns
 returns c =
     let u = c .before .unsuited in
-    let g = c .before .before .before .before in
-    let t = g .before .before .setter-of in
-    let d = g .before .before .before .before .due in
-    let a = g .before .before .before .before .before .before .before .args in
-    let shown = t .result .setter in
-    rw (c .ruled .ensures)
-    (after-left (ruled-after (a .s .now) (a .p) (g .ranged .result) setterLine (λ row. setter shown ≡ setterOf row) (material-rule 2 []) (u .result) (Material 3)
-    (λ row h. sym (ap (λ (t : Bool). when t (Material 3)) (u .ensures ∙ ap (λ (x : Setter). unsuited (x .stuff)) h)))
-    (rw (g .ranged .ensures) (line-after (a .s .now) (a .p) (d .result .place) setterLine (d .result .values) (t .result .fault) (λ zs. setter shown ≡ setterOf (plain zs)) (d .ensures) (t .ensures)))))
+    let ranged = c .before .before .before .before in
+    let taken = ranged .before .before in
+    let t = taken .setter-of in
+    let d = taken .before .before .due in
+    ruled-line setterLine (d .result .values) (λ zs. setter (t .result .setter) ≡ setterOf (plain zs)) (material-rule 2 []) (u .result) (Material 3)
+    (d .ensures) (t .ensures) (ranged .ranged .ensures)
+    (λ row h. sym (ap (λ (t : Bool). when t (Material 3)) (u .ensures ∙ ap (λ (x : Setter). unsuited (x .stuff)) h))) (c .ruled .ensures)
 
 pub setter-line-spec : {M : Type 1} → statement M
-setter-line-spec = tie.close (tie.spec (λ c. search needs) (λ c κs. search needs) (λ c κs. search needs) (λ c κs. search needs) (λ c κs. search needs) (λ c κs. search needs) returns)
+setter-line-spec =
+    tie.close
+    (tie.spec (λ c. search needs) (λ c κs. search needs) (λ c κs. search needs) (λ c κs. search needs) (λ c κs. search needs)
+    (λ c κs. search needs) returns)

@@ -11,14 +11,10 @@ use Rattle.records.proofs.blocks.stage_line.Tie as tie
 
 returns : tie.Need-returns
 returns c =
-    let r = c .before .ranged in
-    let t = c .before .before .before .stage-of in
-    let d = c .before .before .before .before .before .due in
-    let a = c .before .before .before .before .before .before .before .before .args in
-    record {
-      after = rw (r .ensures) (line-after (a .s .now) (a .p) (d .result .place) stageLine (d .result .values) (t .result .fault) (λ zs. stage (t .result .stage) ≡ stageOf (plain zs)) (d .ensures) (t .ensures .takes));
-      small = t .ensures .small;
-    }
+    let taken = c .before .before .before in
+    let t = taken .stage-of in
+    let d = taken .before .before .due in
+    record { after = rw (c .before .ranged .ensures) (line-after _ _ _ stageLine (d .result .values) _ (λ zs. stage (t .result .stage) ≡ stageOf (plain zs)) (d .ensures) (t .ensures .takes)); small = t .ensures .small }
 
 pub stage-line-spec : {M : Type 1} → statement M
 stage-line-spec = tie.close (tie.spec (λ c. search needs) (λ c κs. search needs) (λ c κs. search needs) (λ c κs. search needs) returns)

@@ -1,27 +1,21 @@
 -- The form and the one quantity are the line that is due. Assumes nothing.
-use mathlib.Core.Path.{_≡_, ap}
-use mathlib.Core.List.{List}
 use borrow.Author.Needs.{needs}
-use lib.IntN.{ℤ, pos}
-use lib.ListN.{getD}
+use lib.IntN.{pos}
 use Rattle.text.specs.Bytes.{bytes}
 use Rattle.limits.proofs.Laws.{count-within}
 use Rattle.lines.specs.Reader.{countLine}
-use Rattle.amounts.proofs.Chain.{_&_, done, taken}
-use Rattle.entries.proofs.Lines.{line-after}
+use Rattle.amounts.proofs.Chain.{_&_, done}
+use Rattle.records.proofs.Quantities.{alone}
 use Rattle.records.proofs.blocks.wall_count.Statement.{statement}
 use Rattle.records.proofs.blocks.wall_count.Tie as tie
 
 returns : tie.Need-returns
 returns c =
-    let r = c .before .ranged in
-    let t = c .before .before .before .checked in
-    let d = c .before .before .before .before .before .before .due in
-    let a = c .before .before .before .before .before .before .before .before .before .args in
+    let checked = c .before .before .before in
+    let t = checked .checked in
+    let d = checked .before .before .before .due in
     record {
-      after = rw (r .ensures)
-          (line-after (a .s .now) (a .p) (d .result .place) (countLine (bytes "walls") 0 48) (d .result .values) (t .result .fault) (λ zs. pos (t .result .value .0) ≡ getD zs 0 (pos 0)) (d .ensures)
-          (taken (t .ensures & done) (λ same. ap (λ (l : List ℤ). getD l 0 (pos 0)) same)));
+      after = alone (countLine (bytes "walls") 0 48) (d .result .values) (pos (t .result .value .0)) (d .ensures) (t .ensures & done) (c .before .ranged .ensures);
       within = count-within (t .ensures) tt .high;
     }
 

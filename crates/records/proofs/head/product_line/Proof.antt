@@ -1,24 +1,17 @@
 -- The form and the one quantity are the line that is due. Assumes nothing.
-use mathlib.Core.Path.{_≡_, ap}
-use mathlib.Core.List.{List}
 use borrow.Author.Needs.{needs}
-use lib.IntN.{ℤ, pos}
-use lib.ListN.{getD}
 use Rattle.lines.specs.Document01.{productLine}
-use Rattle.amounts.proofs.Chain.{_&_, done, taken}
-use Rattle.entries.proofs.Lines.{line-after}
+use Rattle.amounts.proofs.Chain.{_&_, done}
+use Rattle.records.proofs.Quantities.{alone}
 use Rattle.records.proofs.head.product_line.Statement.{statement}
 use Rattle.records.proofs.head.product_line.Tie as tie
 
 returns : tie.Need-returns
 returns c =
-    let r = c .before .ranged in
-    let t = c .before .before .before .checked in
-    let d = c .before .before .before .before .before .before .due in
-    let a = c .before .before .before .before .before .before .before .before .before .args in
-    rw (r .ensures)
-    (line-after (a .s .now) (a .p) (d .result .place) productLine (d .result .values) (t .result .fault) (λ zs. t .result .value .0 ≡ getD zs 0 (pos 0)) (d .ensures)
-    (taken (t .ensures & done) (λ same. ap (λ (l : List ℤ). getD l 0 (pos 0)) same)))
+    let checked = c .before .before .before in
+    let t = checked .checked in
+    let d = checked .before .before .before .due in
+    alone productLine (d .result .values) (t .result .value .0) (d .ensures) (t .ensures & done) (c .before .ranged .ensures)
 
 pub product-line-spec : {M : Type 1} → statement M
 product-line-spec = tie.close (tie.spec (λ c. search needs) (λ c κs. search needs) (λ c. search needs) (λ c κs. search needs) (λ c κs. search needs) returns)

@@ -11,11 +11,11 @@ use Rattle.records.proofs.head.water_line.Tie as tie
 
 returns : tie.Need-returns
 returns c =
-    let r = c .before .ranged in
-    let t = c .before .before .before .water-of in
-    let d = c .before .before .before .before .before .due in
-    let a = c .before .before .before .before .before .before .before .before .args in
-    rw (r .ensures) (line-after (a .s .now) (a .p) (d .result .place) waterLine (d .result .values) (t .result .fault) (λ zs. water (t .result .water) ≡ waterOf (plain zs)) (d .ensures) (t .ensures))
+    let taken = c .before .before .before in
+    let t = taken .water-of in
+    let d = taken .before .before .due in
+    rw (c .before .ranged .ensures)
+    (line-after _ _ _ waterLine (d .result .values) _ (λ zs. water (t .result .water) ≡ waterOf (plain zs)) (d .ensures) (t .ensures))
 
 pub water-line-spec : {M : Type 1} → statement M
 water-line-spec = tie.close (tie.spec (λ c. search needs) (λ c κs. search needs) (λ c κs. search needs) (λ c κs. search needs) returns)

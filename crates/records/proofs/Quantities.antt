@@ -1,0 +1,23 @@
+-- The line that is due, by its form and its one quantity. Assumes nothing.
+use Prim.Native.Nat.{ℕ}
+use mathlib.Core.Path.{_≡_, ap}
+use mathlib.Core.List.{List, [], _∷_}
+use mathlib.Core.Option.{none}
+use lib.IntN.{ℤ, pos}
+use lib.ListN.{length, getD}
+use Rattle.limits.specs.declared.Number.{Number}
+use Rattle.lines.specs.Schema.{Line}
+use Rattle.lines.specs.Reader.{readLine}
+use Rattle.amounts.specs.Taking.{from}
+use Rattle.amounts.proofs.Chain.{Chain, taken}
+use Rattle.entries.specs.declared.Place.{Place}
+use Rattle.entries.specs.Place.{After, ranged}
+use Rattle.entries.specs.Form.{formOf}
+use Rattle.entries.proofs.Lines.{line-after}
+
+pub alone : {s : List ℕ} {p q q′ : Place} {fault : ℕ} (l : Line) (v : List Number) (x : ℤ)
+    → After s p (formOf l) q (λ row. from 0 (length (l .fields)) v ≡ row .numbers)
+    → Chain 0 1 (l .fields) (from 0 (length (l .fields)) v) (x ∷ []) fault → q′ ≡ ranged (p .line) q fault
+    → After s p (readLine l (λ row. none)) q′ (λ row. x ≡ getD (row .numbers) 0 (pos 0))
+alone {s} {p} {q} {fault = fault} l v x a c e =
+    rw e (line-after s p q l v fault (λ zs. x ≡ getD zs 0 (pos 0)) a (taken c (λ same. ap (λ (t : List ℤ). getD t 0 (pos 0)) same)))
