@@ -10,7 +10,7 @@ use lib.IntN.{ℤ, pos}
 use Rattle.limits.specs.declared.Number.{Number}
 use Rattle.limits.specs.Checked.{Measured}
 use Rattle.limits.proofs.Laws.{inside}
-use Rattle.lines.specs.Schema.{Field}
+use Rattle.lines.specs.Schema.{Field, Row, plain}
 use Rattle.amounts.specs.Taking.{from, Taken}
 use Rattle.amounts.proofs.Ranges.{chained, chained-first}
 
@@ -37,6 +37,10 @@ chain-same {i} (m & c) e =
 -- THE QUANTITIES OF A LINE, by the constructors' contracts
 pub taken : {fs : List Field} {zs vs : List ℤ} {end : ℕ} {Shown : Type 0} → Chain 0 1 fs zs vs end → (vs ≡ zs → Shown) → Taken fs zs end Shown
 taken {fs} {zs} c f = record { first = chain-fault c ∙ chained-first 0 fs zs; shown = λ e. f (chain-same c e .1) }
+
+pub taken-as : {A : Type 0} {fs : List Field} {zs vs : List ℤ} {end : ℕ} (of : Row → A) → Chain 0 1 fs zs vs end
+    → Taken fs zs end (of (plain vs) ≡ of (plain zs))
+taken-as of c = taken c (λ same. ap (λ (l : List ℤ). of (plain l)) same)
 
 -- one field more at the end
 pub chain-snoc : {least greatest z value : ℤ} {fault i j end after : ℕ} {fs : List Field} {zs vs : List ℤ} → Chain fault i fs zs vs end

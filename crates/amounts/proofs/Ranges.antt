@@ -52,4 +52,5 @@ unfolding outsideOf
 outside-some i [] zs j e = absurd (let z : _≡_ {A = ℕ} 0 1 = cc in omega arith)
 outside-some i (f ∷ fs) [] j e = absurd (let z : _≡_ {A = ℕ} 0 1 = cc in omega arith)
 outside-some i (f ∷ fs) (z ∷ zs) j e =
-    by-test (λ t. cond t (outsideOf (suc (suc i)) fs zs) (some (suc i)) ≡ some j → 0 < j) (outside-some (suc i) fs zs j) (λ e. let p : suc i ≡ j = cc in omega arith) (within f z) e
+    by-test (λ t. cond t (outsideOf (suc (suc i)) fs zs) (some (suc i)) ≡ some j → 0 < j) (outside-some (suc i) fs zs j)
+    (λ e. let p : suc i ≡ j = cc in omega arith) (within f z) e

@@ -25,7 +25,8 @@ use Rattle.amounts.proofs.gas_of.Tie as tie
 abbrev Small : Share → Type 0
 Small x = natAbs (x .0) ≤ 10000
 
-one-more : (v : List Number) (gas : List Share) (x : Share) (i fault after : ℕ) → i < length gas → Chain 0 1 (replicate i share) (from 0 i v) (shares (take i gas)) fault
+one-more : (v : List Number) (gas : List Share) (x : Share) (i fault after : ℕ) → i < length gas
+    → Chain 0 1 (replicate i share) (from 0 i v) (shares (take i gas)) fault
     → Measured (share .least) (share .greatest) (getD v i (record { 0 = pos 0 }) .0) fault (i + 1) (x .0) after
     → Chain 0 1 (replicate (i + 1) share) (from 0 (i + 1) v) (shares (take (i + 1) (set gas i x))) after
 one-more v gas x i fault after h c m =
@@ -47,10 +48,15 @@ loop-holds c = (omega arith, refl, every-replicate Small 13 (record { 0 = pos 0 
 
 loop-again : tie.Need-loop-again Inv-loop μ-loop
 loop-again c =
-    let at = c .before .before .before .before .loop in
-    let v = c .before .before .before .before .before .args .t1 in
+    let turn = c .before .before .before .before in
+    let at = turn .loop in
     let r = c .before .checked in
-    (omega arith, simp length-set (at .inv .1), every-set Small (at .gas) (at .i) (r .result .value) (at .inv .2) (share-small (r .ensures)), one-more v (at .gas) (r .result .value) (at .i) (at .fault) (r .result .fault) (omega arith) (at .inv .3) (r .ensures))
+    let x = r .result .value in (
+      omega arith,
+      simp length-set (at .inv .1),
+      every-set Small (at .gas) (at .i) x (at .inv .2) (share-small (r .ensures)),
+      one-more (turn .before .args .t1) (at .gas) x (at .i) (at .fault) (r .result .fault) (omega arith) (at .inv .3) (r .ensures),
+    )
 
 returns : tie.Need-returns Inv-loop μ-loop
 returns c =

@@ -20,7 +20,9 @@ use Rattle.amounts.proofs.numbers.Lts as lts
 
 one-more : (r : List Number) (v : List ℤ) (i : ℕ) (x : ℤ) → i < length r → i < length v → x ≡ getD v i (pos 0) → plainNumbers (take i r) ≡ take i v
     → plainNumbers (take (i + 1) (set r i (record { 0 = x }))) ≡ take (i + 1) v
-one-more r v i x h k e q = rw (add-one i, take-suc-set r i (record { 0 = x }) h, take-suc v i (pos 0) k, ← q, ← e) (map-append (λ n. n .0) (take i r) (record { 0 = x } ∷ []))
+one-more r v i x h k e q =
+    rw (add-one i, take-suc-set r i (record { 0 = x }) h, take-suc v i (pos 0) k, ← q, ← e)
+    (map-append (λ n. n .0) (take i r) (record { 0 = x } ∷ []))
 
 abbrev Inv-loop : tie.InvT-loop
 Inv-loop v r₀ i₀ r i = (i ≤ 13) × (length r ≡ 13) × (plainNumbers (take i r) ≡ take i v)

@@ -1,11 +1,7 @@
 -- Four constructors in a row. Assumes nothing.
-use mathlib.Core.Path.{ap}
-use mathlib.Core.List.{List}
-use lib.IntN.{ℤ}
 use borrow.Author.Needs.{needs}
-use Rattle.lines.specs.Schema.{plain}
 use Rattle.lines.specs.Rows.{setterOf}
-use Rattle.amounts.proofs.Chain.{_&_, done, taken}
+use Rattle.amounts.proofs.Chain.{_&_, done, taken-as}
 use Rattle.amounts.proofs.setter_of.Statement.{statement}
 use Rattle.amounts.proofs.setter_of.Tie as tie
 
@@ -15,7 +11,10 @@ returns c =
     let r2 = r3 .before in
     let r1 = r2 .before in
     let r0 = r1 .before in
-    taken (r0 .checked .ensures & r1 .checked2 .ensures & r2 .checked3 .ensures & r3 .checked4 .ensures & done) (λ same. ap (λ (l : List ℤ). setterOf (plain l)) same)
+    taken-as setterOf (r0 .checked .ensures & r1 .checked2 .ensures & r2 .checked3 .ensures & r3 .checked4 .ensures & done)
 
 pub setter-of-spec : {M : Type 1} → statement M
-setter-of-spec = tie.close (tie.spec (λ c. search needs) (λ c. search needs) (λ c. search needs) (λ c. search needs) (λ c κs. search needs) (λ c κs. search needs) (λ c κs. search needs) (λ c κs. search needs) returns)
+setter-of-spec =
+    tie.close
+    (tie.spec (λ c. search needs) (λ c. search needs) (λ c. search needs) (λ c. search needs) (λ c κs. search needs) (λ c κs. search needs)
+    (λ c κs. search needs) (λ c κs. search needs) returns)

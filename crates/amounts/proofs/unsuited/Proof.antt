@@ -16,13 +16,15 @@ listed m b h = rw (le-leb 0 m (omega arith), lt-leb m 0 (omega arith))
 
 returns : tie.Need-returns
 returns c =
-    let x = c .before .before .before .before .before .args .x in
-    c .before .before .without .ensures ∙ sym (ap (λ (m : ℕ). alike (same (pos 0) (pos m)) (same (pos 0) (x .c .0))) (c .if1 .taken))
+    let tested = c .before .before in
+    let x = tested .before .before .before .args .x in
+    tested .without .ensures ∙ sym (ap (λ (m : ℕ). alike (same (pos 0) (pos m)) (same (pos 0) (x .c .0))) (c .if1 .taken))
 
 returns-2 : tie.Need-returns-2
 returns-2 c =
-    let x = c .before .before .before .before .before .args .x in
-    ap not (c .before .before .without .ensures) ∙ sym (listed (x .material .0) (same (pos 0) (x .c .0)) (c .if1 .left))
+    let tested = c .before .before in
+    let x = tested .before .before .before .args .x in
+    ap not (tested .without .ensures) ∙ sym (listed (x .material .0) (same (pos 0) (x .c .0)) (c .if1 .left))
 
 pub unsuited-spec : {M : Type 1} → statement M
 unsuited-spec = tie.close (tie.spec (λ c κs. search needs) returns returns-2)

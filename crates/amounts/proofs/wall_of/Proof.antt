@@ -1,12 +1,8 @@
 -- Four constructors in a row. Assumes nothing.
-use mathlib.Core.Path.{ap}
-use mathlib.Core.List.{List}
-use lib.IntN.{ℤ}
 use borrow.Author.Needs.{needs}
 use Rattle.limits.proofs.Laws.{count-within}
-use Rattle.lines.specs.Schema.{plain}
 use Rattle.lines.specs.Rows.{wallOf}
-use Rattle.amounts.proofs.Chain.{_&_, done, taken}
+use Rattle.amounts.proofs.Chain.{_&_, done, taken-as}
 use Rattle.amounts.proofs.wall_of.Statement.{statement}
 use Rattle.amounts.proofs.wall_of.Tie as tie
 
@@ -18,10 +14,13 @@ returns c =
     let r0 = r1 .before in
     let limits = count-within (r1 .checked2 .ensures) tt in
     record {
-      takes = taken (r0 .checked .ensures & r1 .checked2 .ensures & r2 .checked3 .ensures & r3 .checked4 .ensures & done) (λ same. ap (λ (l : List ℤ). wallOf (plain l)) same);
+      takes = taken-as wallOf (r0 .checked .ensures & r1 .checked2 .ensures & r2 .checked3 .ensures & r3 .checked4 .ensures & done);
       least = limits .low;
       most = limits .high;
     }
 
 pub wall-of-spec : {M : Type 1} → statement M
-wall-of-spec = tie.close (tie.spec (λ c. search needs) (λ c. search needs) (λ c. search needs) (λ c. search needs) (λ c κs. search needs) (λ c κs. search needs) (λ c κs. search needs) (λ c κs. search needs) returns)
+wall-of-spec =
+    tie.close
+    (tie.spec (λ c. search needs) (λ c. search needs) (λ c. search needs) (λ c. search needs) (λ c κs. search needs) (λ c κs. search needs)
+    (λ c κs. search needs) (λ c κs. search needs) returns)

@@ -1,11 +1,7 @@
 -- Three constructors in a row. Assumes nothing.
-use mathlib.Core.Path.{ap}
-use mathlib.Core.List.{List}
-use lib.IntN.{ℤ}
 use borrow.Author.Needs.{needs}
-use Rattle.lines.specs.Schema.{plain}
 use Rattle.lines.specs.Rows.{waterOf}
-use Rattle.amounts.proofs.Chain.{_&_, done, taken}
+use Rattle.amounts.proofs.Chain.{_&_, done, taken-as}
 use Rattle.amounts.proofs.water_of.Statement.{statement}
 use Rattle.amounts.proofs.water_of.Tie as tie
 
@@ -14,7 +10,9 @@ returns c =
     let r2 = c .before .before .before in
     let r1 = r2 .before in
     let r0 = r1 .before in
-    taken (r0 .checked .ensures & r1 .checked2 .ensures & r2 .checked3 .ensures & done) (λ same. ap (λ (l : List ℤ). waterOf (plain l)) same)
+    taken-as waterOf (r0 .checked .ensures & r1 .checked2 .ensures & r2 .checked3 .ensures & done)
 
 pub water-of-spec : {M : Type 1} → statement M
-water-of-spec = tie.close (tie.spec (λ c. search needs) (λ c. search needs) (λ c. search needs) (λ c κs. search needs) (λ c κs. search needs) (λ c κs. search needs) returns)
+water-of-spec =
+    tie.close
+    (tie.spec (λ c. search needs) (λ c. search needs) (λ c. search needs) (λ c κs. search needs) (λ c κs. search needs) (λ c κs. search needs) returns)

@@ -12,7 +12,8 @@ use Rattle.amounts.proofs.without.Tie as tie
 
 returns : tie.Need-returns
 returns c =
-    let x = c .before .before .before .before .before .args .c in
+    let above = c .before .before in
+    let x = above .before .before .before .args .c in
     let fits : SFits w32 (x .0) = search needs in
     let v = toZ-ofZ fits in
     let low : leZ (pos 0) (x .0) ≡ true = cc in
