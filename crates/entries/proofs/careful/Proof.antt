@@ -5,12 +5,6 @@ use Rattle.entries.proofs.Formed.{form-refused, form-read}
 use Rattle.entries.proofs.careful.Statement.{statement}
 use Rattle.entries.proofs.careful.Tie as tie
 
-judged-requires : tie.Need-judged-requires
-judged-requires c κs = search needs
-
-refused-requires : tie.Need-refused-requires
-refused-requires c κs = search needs
-
 -- the start, from where the line is judged, and this place, from where its numbers are laid
 abbrev start : tie.After-judged → tie.Start
 start c = c .before .before .before
@@ -47,4 +41,4 @@ returns-2 c =
 pub careful-spec : {M : Type 1} → statement M
 careful-spec =
     tie.close
-    (tie.spec judged-requires refused-requires returns lay-requires onward-requires returns-2)
+    (tie.spec (λ c κs. search needs) (λ c κs. search needs) returns lay-requires onward-requires returns-2)

@@ -12,9 +12,6 @@ use Rattle.entries.proofs.Formed.{form-read, form-passed}
 use Rattle.entries.proofs.form.Statement.{statement}
 use Rattle.entries.proofs.form.Tie as tie
 
-row-requires : tie.Need-row-requires
-row-requires c κs = search needs
-
 -- the start, from where the place is good, and this place, from where the row is read
 abbrev start : tie.Then1 → tie.Start
 start c = c .before .before .before .before
@@ -47,9 +44,6 @@ careful-requires c κs =
     let kept = ⊎-elim (λ w. ap length (w .4) ∙ w .2 .ensures .1 ∙ size) (λ w. ap length (w .1) ∙ size) (c .before .if2 .came) in
     (a .pre .0, (a .pre .1 .0, (is-good (a .args .p) (g .if1 .taken), kept)))
 
-returns-2 : tie.Need-returns-2
-returns-2 c = search needs
-
 returns-3 : tie.Need-returns-3
 returns-3 c =
     let a = c .before .before .before .before .args in
@@ -57,4 +51,5 @@ returns-3 c =
 
 pub form-spec : {M : Type 1} → statement M
 form-spec =
-    tie.close (tie.spec row-requires onward-requires returns careful-requires returns-2 returns-3)
+    tie.close
+    (tie.spec (λ c κs. search needs) onward-requires returns careful-requires (λ c. search needs) returns-3)

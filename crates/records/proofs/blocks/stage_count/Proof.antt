@@ -1,11 +1,7 @@
--- The form and the one quantity are the line that is due. Assumes nothing.
+-- The form and the one number are the line that is due. Assumes nothing.
 use borrow.Author.Needs.{needs}
-use lib.IntN.{pos}
 use Rattle.text.specs.Bytes.{bytes}
-use Rattle.limits.proofs.Laws.{count-within}
-use Rattle.lines.specs.Reader.{countLine}
-use Rattle.amounts.proofs.Chain.{_&_, done}
-use Rattle.records.proofs.Quantities.{alone}
+use Rattle.records.proofs.Quantities.{counted}
 use Rattle.records.proofs.blocks.stage_count.Statement.{statement}
 use Rattle.records.proofs.blocks.stage_count.Tie as tie
 
@@ -14,10 +10,7 @@ returns c =
     let checked = c .before .before .before in
     let t = checked .checked in
     let d = checked .before .before .before .due in
-    record {
-      after = alone (countLine (bytes "stages") 1 12) (d .result .values) (pos (t .result .value .0)) (d .ensures) (t .ensures & done) (c .before .ranged .ensures);
-      within = count-within (t .ensures) tt .high;
-    }
+    counted (bytes "stages") 1 12 (d .result .values) (t .result .value .0) (d .ensures) (t .ensures) tt (c .before .ranged .ensures)
 
 pub stage-count-spec : {M : Type 1} → statement M
 stage-count-spec = tie.close (tie.spec (λ c. search needs) (λ c κs. search needs) (λ c. search needs) (λ c κs. search needs) (λ c κs. search needs) returns)
