@@ -25,7 +25,8 @@ unfolding numbersOf
 numbers-many i [] zs e = let q : zs ≡ [] = cc in rw q
 numbers-many i (p ∷ ps) zs e = here (numberOf p) (numbersOf (suc i) ps) (numbers-many (suc i) ps) e
   where
-    here : (m : Num) (ns : Numbers) → ((r : List ℤ) → ns ≡ all-are r → length r ≡ length ps) → onNumber m (none-at i) (λ z. onNumbers ns none-at (λ r. all-are (z ∷ r))) ≡ all-are zs → length zs ≡ suc (length ps)
+    here : (m : Num) (ns : Numbers) → ((r : List ℤ) → ns ≡ all-are r → length r ≡ length ps)
+        → onNumber m (none-at i) (λ z. onNumbers ns none-at (λ r. all-are (z ∷ r))) ≡ all-are zs → length zs ≡ suc (length ps)
     here num.NotANumber ns q e = let z : _≡_ {A = ℕ} 0 1 = cc in absurd (omega arith)
     here (num.Value z) (none-at j) q e = let z : _≡_ {A = ℕ} 0 1 = cc in absurd (omega arith)
     here (num.Value z) (all-are r) q e = let w : zs ≡ z ∷ r = cc in rw w (ap suc (q r refl))
@@ -44,13 +45,19 @@ fair : (key : List ℕ) (n : ℕ) (text : List ℕ) → Fair n text (formedBy ke
 unfolding formedBy
 fair key n text = here (upTo 10 text) (pieces 44 (drop (length key) (upTo 10 text))) _ refl (begins key (upTo 10 text)) _ refl _ refl
   where
-    here : (body : List ℕ) (ps : List (List ℕ)) (a : Bool) → ltb (length body) (length text) ≡ a → (b c : Bool) → eqb (length ps) n ≡ c → (ns : Numbers) → numbersOf 1 ps ≡ ns →
-        Fair n text (unless a NoLineFeed (unless b WrongKey (unless c WrongCount (onNumbers ns (λ i. refused (NotANumber i)) (λ zs. values (plain zs) (suc (length body)))))))
+    here : (body : List ℕ) (ps : List (List ℕ)) (a : Bool) → ltb (length body) (length text) ≡ a → (b c : Bool) → eqb (length ps) n ≡ c
+        → (ns : Numbers) → numbersOf 1 ps ≡ ns
+        → Fair n text (unless a NoLineFeed (unless b WrongKey (unless c WrongCount
+        (onNumbers ns (λ i. refused (NotANumber i)) (λ zs. values (plain zs) (suc (length body)))))))
     here body ps false p b c q ns r = λ e. omega (arith, ap number e)
     here body ps true p false c q ns r = λ e. omega (arith, ap number e)
     here body ps true p true false q ns r = λ e. omega (arith, ap number e)
     here body ps true p true true q (none-at i) r = λ e. omega (arith, ap number e)
-    here body ps true p true true q (all-are zs) r = record { many = numbers-many 1 ps zs r ∙ eqb-true (length ps) n q; some = omega arith; within = omega (arith, ltb-true (length body) (length text) p) }
+    here body ps true p true true q (all-are zs) r = record {
+      many = numbers-many 1 ps zs r ∙ eqb-true (length ps) n q;
+      some = omega arith;
+      within = omega (arith, ltb-true (length body) (length text) p);
+    }
 
 pub formed-values : (key : List ℕ) (n : ℕ) (text : List ℕ) (row : Row) (size : ℕ) → formedBy key n text ≡ values row size → Formed n text row size
 formed-values key n text row size e = rw e at (fair key n text)
@@ -94,4 +101,9 @@ module _ (s : List ℕ) (at : ℕ) (key : List ℕ) (n : ℕ) where
     where
       here : (j : Judged) → Fair n (drop at s) j → Told s (handed at j)
       here (refused r) f = record { room = refl; within = omega arith; accepted = λ e. absurd (f e); refused = λ e. refl }
-      here (values row size) f = record { room = length-sets zeros 0 (row .numbers); within = omega (arith, f .some, f .within, length-drop at s); accepted = λ e. omega (arith, f .some); refused = λ e. absurd (e refl) }
+      here (values row size) f = record {
+        room = length-sets zeros 0 (row .numbers);
+        within = omega (arith, f .some, f .within, length-drop at s);
+        accepted = λ e. omega (arith, f .some);
+        refused = λ e. absurd (e refl);
+      }

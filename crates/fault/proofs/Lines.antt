@@ -19,8 +19,9 @@ use Rattle.fault.specs.Fields.{accepted, fieldsOf, fieldsAt, Keyed}
 use Rattle.fault.proofs.Pieces.{upTo-past}
 
 -- the judgement on a line's fields, as the code hands it out
-handed-fields : (at size n : ℕ) (ps : List (List ℕ)) →
-    handed at (unless (eqb (length ps) n) WrongCount (onNumbers (numbersOf 1 ps) (λ i. refused (NotANumber i)) (λ zs. values (plain zs) size))) ≡ fieldsOf n (at + size) 0 zeros ps
+handed-fields : (at size n : ℕ) (ps : List (List ℕ))
+    → handed at (unless (eqb (length ps) n) WrongCount (onNumbers (numbersOf 1 ps) (λ i. refused (NotANumber i)) (λ zs. values (plain zs) size)))
+    ≡ fieldsOf n (at + size) 0 zeros ps
 unfolding fieldsOf
 handed-fields at size n ps = rw (zero-add (length ps)) (here (eqb (length ps) n) (numbersOf 1 ps))
   where
@@ -69,14 +70,16 @@ module _ (s : List ℕ) (at : ℕ) (key : List ℕ) (n : ℕ) where
             let b = upTo 10 (drop (at + length key) s) in
             let h = ltb-true (find s at 10) (length s) e in
             let q : at + suc (length (key ++ b)) ≡ find s (at + length key) 10 + 1 = omega (arith, length-append key b) in
-            rw (lt-ltb (length (upTo 10 (drop at s))) (length (drop at s)) (omega (arith, length-drop at s)), lt-ltb (find s (at + length key) 10) (length s) (omega (arith, same-end)), behind, key-begins key b, drop-append-seam key b)
+            let ended = lt-ltb (length (upTo 10 (drop at s))) (length (drop at s)) (omega (arith, length-drop at s)) in
+            rw (ended, lt-ltb (find s (at + length key) 10) (length s) (omega (arith, same-end)), behind, key-begins key b, drop-append-seam key b)
             (handed-fields at (suc (length (key ++ b))) n (pieces 44 b) ∙ rw q)
         here false e =
             let h = ltb-false (find s at 10) (length s) e in
             endless h ∙ rw (le-ltb (find s (at + length key) 10) (length s) (omega (arith, same-end)))
 
   -- its fields, where the end is known
-  pub line-fields : Keyed s at key → find s at 10 < length s → lineAt s at key n ≡ fieldsOf n (find s at 10 + 1) 0 zeros (pieces 44 (take (find s at 10 - (at + length key)) (drop (at + length key) s)))
+  pub line-fields : Keyed s at key → find s at 10 < length s
+      → lineAt s at key n ≡ fieldsOf n (find s at 10 + 1) 0 zeros (pieces 44 (take (find s at 10 - (at + length key)) (drop (at + length key) s)))
   unfolding fieldsAt
   line-fields k h =
       let e = same-end k in

@@ -19,7 +19,8 @@ unfolding upTo count
 upTo-past c [] rest z = refl
 upTo-past c (b ∷ p) rest z = here (eqb b c) (upTo-past c p rest) z
   where
-    here : (t : Bool) → (count p c ≡ 0 → upTo c (p ++ rest) ≡ p ++ upTo c rest) → cond t (suc (count p c)) (count p c) ≡ 0 → cond t [] (b ∷ upTo c (p ++ rest)) ≡ b ∷ (p ++ upTo c rest)
+    here : (t : Bool) → (count p c ≡ 0 → upTo c (p ++ rest) ≡ p ++ upTo c rest) → cond t (suc (count p c)) (count p c) ≡ 0
+        → cond t [] (b ∷ upTo c (p ++ rest)) ≡ b ∷ (p ++ upTo c rest)
     here true q z = absurd (omega arith)
     here false q z = rw (q z)
 
@@ -43,11 +44,18 @@ next-piece v at e q p = rw q (here (leb at (length v)) refl (leb (find v at 44 +
     text : List ℕ
     text = upTo 44 (drop at v)
 
-    here : (t : Bool) → leb at (length v) ≡ t → (u : Bool) → leb (find v at 44 + 1) (length v) ≡ u → 0 < length (cond t (pieces 44 (drop at v)) []) → Piece v at (find v at 44)
+    here : (t : Bool) → leb at (length v) ≡ t → (u : Bool) → leb (find v at 44 + 1) (length v) ≡ u → 0 < length (cond t (pieces 44 (drop at v)) [])
+        → Piece v at (find v at 44)
     here true h true g p =
         let l = leb-true (find v at 44 + 1) (length v) g in
-        record { most = omega arith; first = rw (h, g) (ap (pieces 44) (found v at 44 (omega arith)) ∙ pieces-more 44 text (drop (find v at 44 + 1) v) (upTo-clear 44 (drop at v))) }
+        record {
+          most = omega arith;
+          first = rw (h, g) (ap (pieces 44) (found v at 44 (omega arith)) ∙ pieces-more 44 text (drop (find v at 44 + 1) v) (upTo-clear 44 (drop at v)));
+        }
     here true h false g p =
         let l = leb-false (find v at 44 + 1) (length v) g in
-        record { most = find-most v at 44 (leb-true at (length v) h); first = rw (h, g) (ap (pieces 44) (sym (not-found v at 44 (omega arith))) ∙ pieces-last 44 text (upTo-clear 44 (drop at v))) }
+        record {
+          most = find-most v at 44 (leb-true at (length v) h);
+          first = rw (h, g) (ap (pieces 44) (sym (not-found v at 44 (omega arith))) ∙ pieces-last 44 text (upTo-clear 44 (drop at v)));
+        }
     here false h u g p = absurd (omega arith)

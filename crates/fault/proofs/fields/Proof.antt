@@ -1,10 +1,11 @@
 -- `fields` meets its contract: reading on from each place, with the numbers stored before it, gives what reading the whole
 -- gives. Assumes nothing.
 use mathlib.Core.Path.{_≡_, refl, sym, ap, _∙_}
+use mathlib.Core.List.{List}
 use mathlib.Core.Logic.{⊎-elim}
-use Prim.Native.Nat.{_+_, _-_}
+use Prim.Native.Nat.{ℕ, _+_, _-_}
 use native.Mathlib.Omega.{arith}
-use lib.ListN.{length, drop}
+use lib.ListN.{length, take, drop}
 use mir.Syntax.{w64}
 use mir.ValLaws.{toZ-ofZ}
 use borrow.Author.Needs.{needs}
@@ -28,91 +29,57 @@ Inv-loop v n next values₀ at₀ i₀ values at i =
 abbrev μ-loop : tie.MeasureT-loop
 μ-loop v n next values₀ at₀ i₀ values at i = n - i
 
-step : (c : tie.After-find Inv-loop μ-loop) → Piece (c .before .before .before .before .before .before .before .args .v .now) (c .before .before .loop .at) (c .find .result)
+-- the line's text, from a turn of the loop, and the turn in which a number is read
+abbrev line : tie.At-loop Inv-loop μ-loop → List ℕ
+line c = let counted = c .before .before in counted .before .before .before .args .v .now
+
+abbrev turn : tie.After-number Inv-loop μ-loop → tie.At-loop Inv-loop μ-loop
+turn c = c .before .before .before .before
+
+step : (c : tie.After-find Inv-loop μ-loop) → Piece (line (c .before .before)) (c .before .before .loop .at) (c .find .result)
 step c = next-piece _ _ _ (c .find .ensures) (omega arith)
 
 -- what `number` was asked
-text : (c : tie.After-number Inv-loop μ-loop) → c .number .result ≡ numberOf (upTo 44 (drop (c .before .before .before .before .loop .at) (c .before .before .before .before .before .before .before .before .before .args .v .now)))
-text c = c .number .ensures ∙ ap numberOf (rw (c .before .before .find .ensures) (piece _ _ 44))
-
-count-requires : tie.Need-count-requires Inv-loop μ-loop
-count-requires c κs = search needs
-
-sub-if2 : tie.Need-sub-if2 Inv-loop μ-loop
-sub-if2 c = search needs
-
-refuse-requires : tie.Need-refuse-requires Inv-loop μ-loop
-refuse-requires c κs = search needs
+text : (c : tie.After-number Inv-loop μ-loop) → c .number .result ≡ numberOf (upTo 44 (drop (turn c .loop .at) (line (turn c))))
+text c =
+    let at = turn c .loop .at in
+    let v = line (turn c) in
+    c .number .ensures ∙ ap numberOf (ap (λ (e : ℕ). take (e - at) (drop at v)) (c .before .before .find .ensures) ∙ piece v at 44)
 
 returns : tie.Need-returns Inv-loop μ-loop
 returns c =
     let a = c .before .before .before .args in
     let v = a .v .now in
     c .refuse .ensures
-    ∙ sym
-    (fields-wrong _ _ 0 _ (pieces 44 v)
-    (λ e. ⊎-elim (λ w. omega (arith, pieces-count 44 v)) (λ w. eqb-false (w .1 .result) (a .n - 1) (not-true _ (w .2 .taken)) (omega (arith, pieces-count 44 v, w .1 .ensures))) (c .before .if1 .came)))
+    ∙ sym (fields-wrong _ _ 0 _ (pieces 44 v)
+    (λ e. ⊎-elim (λ w. omega (arith, pieces-count 44 v))
+    (λ w. eqb-false (w .1 .result) (a .n - 1) (not-true _ (w .2 .taken)) (omega (arith, pieces-count 44 v, w .1 .ensures))) (c .before .if1 .came)))
 
 loop-holds : tie.Need-loop-holds Inv-loop μ-loop
 loop-holds c =
     let a = c .before .before .before .before .args in
     let v = a .v .now in
-    rw (left-all v) (refl, omega (arith, pieces-count 44 v, c .before .count .ensures, eqb-true (c .before .count .result) (a .n - 1) (not-false _ (c .if2 .left))))
-
-find-requires : tie.Need-find-requires Inv-loop μ-loop
-find-requires c κs = search needs
-
-sub-number : tie.Need-sub-number Inv-loop μ-loop
-sub-number c = search needs
-
-part-number-start : tie.Need-part-number-start Inv-loop μ-loop
-part-number-start c = search needs
+    rw (left-all v)
+    (refl, omega (arith, pieces-count 44 v, c .before .count .ensures, eqb-true (c .before .count .result) (a .n - 1) (not-false _ (c .if2 .left))))
 
 part-number-end : tie.Need-part-number-end Inv-loop μ-loop
 part-number-end c = omega (arith, step c)
-
-number-requires : tie.Need-number-requires Inv-loop μ-loop
-number-requires c κs = search needs
-
-enum-known-z : tie.Need-enum-known-z Inv-loop μ-loop
-enum-known-z c = search needs
-
-mul-values : tie.Need-mul-values Inv-loop μ-loop
-mul-values c = search needs
-
-array-set-from-values : tie.Need-array-set-from-values Inv-loop μ-loop
-array-set-from-values c = search needs
-
-enum-told : tie.Need-enum-told Inv-loop μ-loop
-enum-told c = search needs
-
-add-t23 : tie.Need-add-t23 Inv-loop μ-loop
-add-t23 c = search needs
-
-refuse-requires-2 : tie.Need-refuse-requires-2 Inv-loop μ-loop
-refuse-requires-2 c κs = search needs
 
 returns-2 : tie.Need-returns-2 Inv-loop μ-loop
 returns-2 c =
     let p = c .before .before .before in
     let s = step (p .before .before) .first in
-    let l = p .before .before .before .before .loop in
+    let l = turn p .loop in
     c .refuse2 .ensures ∙ sym (fields-bad _ _ _ _ _ _ (rw s at (l .inv .1)) (sym (text p) ∙ c .before .enum-told .given .1)) ∙ rw s at (l .inv .0)
 
 add-at : tie.Need-add-at Inv-loop μ-loop
-add-at c = omega (arith, step (c .before .before .before .before .before))
-
-add-i : tie.Need-add-i Inv-loop μ-loop
-add-i c = search needs
-
-loop-less : tie.Need-loop-less Inv-loop μ-loop
-loop-less c = search needs
+add-at c = let read = c .before .before .before in omega (arith, step (read .before .before))
 
 loop-again : tie.Need-loop-again Inv-loop μ-loop
 loop-again c =
     let p = c .before .before .before in
     let s = step (p .before .before) .first in
-    let l = p .before .before .before .before .loop in
+    let l = turn p .loop in
     let z = c .before .z .given .0 .0 in
     let b = toZ-ofZ w64 z (record { sfits = omega (arith, c .known-told .given) }) in
     rw b (sym (fields-more _ _ _ _ _ _ z (sym (text p) ∙ c .before .z .given .1)) ∙ rw s at (l .inv .0), omega (arith, ap length s))
@@ -125,28 +92,6 @@ returns-3 c =
 pub fields-spec : {M : Type 1} → statement M
 fields-spec =
     tie.close
-    (tie.spec
-    Inv-loop
-    μ-loop
-    count-requires
-    sub-if2
-    refuse-requires
-    returns
-    loop-holds
-    find-requires
-    sub-number
-    part-number-start
-    part-number-end
-    number-requires
-    enum-known-z
-    mul-values
-    array-set-from-values
-    enum-told
-    add-t23
-    refuse-requires-2
-    returns-2
-    add-at
-    add-i
-    loop-less
-    loop-again
-    returns-3)
+    (tie.spec Inv-loop μ-loop (λ c κs. search needs) (λ c. search needs) (λ c κs. search needs) returns loop-holds (λ c κs. search needs)
+    (λ c. search needs) (λ c. search needs) part-number-end (λ c κs. search needs) (λ c. search needs) (λ c. search needs) (λ c. search needs)
+    (λ c. search needs) (λ c. search needs) (λ c κs. search needs) returns-2 add-at (λ c. search needs) (λ c. search needs) loop-again returns-3)
