@@ -53,7 +53,8 @@ no-sign (b ∷ l) z e = here (eqb b 45) refl
 
 -- one step of reading digits up to the byte c
 module _ (s : List ℕ) (c i : ℕ) (h : i < length s) (m : ℕ) where
-  pub digit-more : (getD s i 0 ≡ c → ⊥) → 48 ≤ getD s i 0 → getD s i 0 ≤ 57 → digitsRead m (upTo c (drop i s)) ≡ digitsRead (m * 10 + (getD s i 0 - 48)) (upTo c (drop (i + 1) s))
+  pub digit-more : (getD s i 0 ≡ c → ⊥) → 48 ≤ getD s i 0 → getD s i 0 ≤ 57
+      → digitsRead m (upTo c (drop i s)) ≡ digitsRead (m * 10 + (getD s i 0 - 48)) (upTo c (drop (i + 1) s))
   unfolding digitsRead upTo
   digit-more n g l = rw (add-one, drop-cons s i 0, ne-eqb (getD s i 0) c n, le-ltb (getD s i 0) 48 g, le-ltb 57 (getD s i 0) l)
 
@@ -74,14 +75,16 @@ few e m h l = go (decLe e 8)
         absurd z
 
 -- THE LAW: the digits that the loop has seen are a number
-pub digits-seen : (s : List ℕ) (at c k m : ℕ) → at < k → k < length s → getD s k 0 ≡ c → k ≤ at + 9 → (at + 1 < k → getD s at 0 ≡ 48 → ⊥) →
-    find s k c ≡ find s at c → digitsRead m (upTo c (drop k s)) ≡ digitsRead 0 (upTo c (drop at s)) → Number s at c (pos m) (k + 1)
+pub digits-seen : (s : List ℕ) (at c k m : ℕ) → at < k → k < length s → getD s k 0 ≡ c → k ≤ at + 9 → (at + 1 < k → getD s at 0 ≡ 48 → ⊥)
+    → find s k c ≡ find s at c → digitsRead m (upTo c (drop k s)) ≡ digitsRead 0 (upTo c (drop at s)) → Number s at c (pos m) (k + 1)
 unfolding numberWithin unsigned
 digits-seen s at c k m p h e q z f d =
     let l = upTo c (drop at s) in
     let g = find-hit c s k h e in
     let r : digitsRead 0 l ≡ Value (pos m) = sym d ∙ digit-end s c k h m e in
-    let b : getD l 0 0 ≡ getD s at 0 = ap (λ (x : List ℕ). getD x 0 0) (sym (upTo-front c (drop at s))) ∙ getD-take (length l) (drop at s) 0 0 (omega arith) ∙ getD-drop at s 0 0 ∙ rw (add-zero at) in
+    let b : getD l 0 0 ≡ getD s at 0 =
+    ap (λ (x : List ℕ). getD x 0 0) (sym (upTo-front c (drop at s))) ∙ getD-take (length l) (drop at s) 0 0 (omega arith)
+    ∙ getD-drop at s 0 0 ∙ rw (add-zero at) in
     record {
       inside = omega arith;
       ends = omega arith;
@@ -95,7 +98,8 @@ module _ (s : List ℕ) (p n i : ℕ) (vals : List ℤ) (z : ℤ) (q : ℕ) wher
   row-more w =
       let d = upTo 44 (drop p s) in
       let b = upTo 10 (drop q s) in
-      let e : upTo 10 (drop p s) ≡ d ++ (44 ∷ b) = rw (w .ends) (ap (upTo 10) (found s p 44 (w .inside)) ∙ upTo-past 10 d (44 ∷ drop (find s p 44 + 1) s) (number-clear 10 (lit< tt) d z (w .says))) in
+      let past = upTo-past 10 d (44 ∷ drop (find s p 44 + 1) s) (number-clear 10 (lit< tt) d z (w .says)) in
+      let e : upTo 10 (drop p s) ≡ d ++ (44 ∷ b) = rw (w .ends) (ap (upTo 10) (found s p 44 (w .inside)) ∙ past) in
       let f : find s p 10 ≡ find s q 10 = omega (arith, ap length e, length-append d (44 ∷ b), w .ends) in
       rw (f, e, pieces-more 44 d b (number-clear 44 (lit< tt) d z (w .says)), fields-more n (find s q 10 + 1) i vals d (pieces 44 b) z (w .says))
 

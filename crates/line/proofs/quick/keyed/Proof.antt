@@ -19,42 +19,22 @@ Inv-loop s at key i₀ i =
 abbrev μ-loop : tie.MeasureT-loop
 μ-loop s at key i₀ i = length key - i
 
-sub-if2 : tie.Need-sub-if2 Inv-loop μ-loop
-sub-if2 c = search needs
-
 returns : tie.Need-returns Inv-loop μ-loop
 returns c = λ q. let z : _≡_ {A = ℕ} 0 1 = cc in absurd (omega arith)
 
 loop-holds : tie.Need-loop-holds Inv-loop μ-loop
 loop-holds c = (refl, refl, omega (arith, ltb-false))
 
-shared-slice-read-if3 : tie.Need-shared-slice-read-if3 Inv-loop μ-loop
-shared-slice-read-if3 c = search needs
-
-add-if4 : tie.Need-add-if4 Inv-loop μ-loop
-add-if4 c = search needs
-
-shared-slice-read-if4 : tie.Need-shared-slice-read-if4 Inv-loop μ-loop
-shared-slice-read-if4 c = search needs
-
-shared-slice-read-if4-2 : tie.Need-shared-slice-read-if4-2 Inv-loop μ-loop
-shared-slice-read-if4-2 c = search needs
-
 returns-2 : tie.Need-returns-2 Inv-loop μ-loop
 returns-2 c = λ q. let z : _≡_ {A = ℕ} 0 1 = cc in absurd (omega arith)
-
-add-i : tie.Need-add-i Inv-loop μ-loop
-add-i c = search needs
-
-loop-less : tie.Need-loop-less Inv-loop μ-loop
-loop-less c = search needs
 
 loop-again : tie.Need-loop-again Inv-loop μ-loop
 loop-again c =
     let e = c .before .before .before in
-    let l = e .before .before .before .loop in
+    let turn = e .before .before .before in
+    let l = turn .loop in
     let h = e .before .before .loop-test .taken in
-    let a = e .before .before .before .before .before .before .args in
+    let a = turn .before .before .before .args in
     let b = drop (a .at) (a .s .now) in
     let n : l .i < length b = omega (arith, length-drop (a .at) (a .s .now)) in (
       sym (begins-same (a .key .now) b (l .i) h n (getD-drop (a .at) (a .s .now) (l .i) 0 ∙ eqb-true _ _ (not-false _ (c .if4 .left)))) ∙ l .inv .0,
@@ -70,18 +50,5 @@ returns-3 c = λ q.
 pub keyed-spec : {M : Type 1} → statement M
 keyed-spec =
     tie.close
-    (tie.spec
-    Inv-loop
-    μ-loop
-    sub-if2
-    returns
-    loop-holds
-    shared-slice-read-if3
-    add-if4
-    shared-slice-read-if4
-    shared-slice-read-if4-2
-    returns-2
-    add-i
-    loop-less
-    loop-again
-    returns-3)
+    (tie.spec Inv-loop μ-loop (λ c. search needs) returns loop-holds (λ c. search needs) (λ c. search needs) (λ c. search needs) (λ c. search needs)
+    returns-2 (λ c. search needs) (λ c. search needs) loop-again returns-3)

@@ -19,35 +19,27 @@ use Rattle.line.proofs.quick.number.Tie as tie
 
 abbrev Inv-loop : tie.InvT-loop
 Inv-loop s at c first m₀ k₀ m k =
-    (find s k c ≡ find s at c) × (digitsRead m (upTo c (drop k s)) ≡ digitsRead 0 (upTo c (drop at s))) × (m < 1000000000) × (at < k) × (k ≤ length s) × (first ≡ getD s at 0) × ((first ≡ 48 → ⊥) → 10 ^ (k - (at + 1)) ≤ m)
+    (find s k c ≡ find s at c) × (digitsRead m (upTo c (drop k s)) ≡ digitsRead 0 (upTo c (drop at s))) × (m < 1000000000)
+    × (at < k) × (k ≤ length s) × (first ≡ getD s at 0) × ((first ≡ 48 → ⊥) → 10 ^ (k - (at + 1)) ≤ m)
 
 abbrev μ-loop : tie.MeasureT-loop
 μ-loop s at c first m₀ k₀ m k = length s - k
 
-returns : tie.Need-returns Inv-loop μ-loop
-returns c = λ q. absurd (q refl)
-
-shared-slice-read-first : tie.Need-shared-slice-read-first Inv-loop μ-loop
-shared-slice-read-first c = search needs
-
-returns-2 : tie.Need-returns-2 Inv-loop μ-loop
-returns-2 c = λ q. absurd (q refl)
-
 cast-m : tie.Need-cast-m Inv-loop μ-loop
 cast-m c = omega (arith, ltb-false)
 
-add-k : tie.Need-add-k Inv-loop μ-loop
-add-k c = search needs
+-- the start, from where the first digit is known
+abbrev start : tie.Else3 Inv-loop μ-loop → tie.Start Inv-loop μ-loop
+start c = let first = c .before .before in first .before .before .before
 
 loop-holds : tie.Need-loop-holds Inv-loop μ-loop
 loop-holds c =
-    let f = c .before .before .before .before .before in
-    let a = f .args in
+    let a = start c .args in
     let s = a .s .now in
     let h : a .at < length s = omega (arith, ltb-false) in
     let low : 48 ≤ getD s (a .at) 0 = omega (arith, ltb-false) in
     let high : getD s (a .at) 0 ≤ 57 = omega (arith, ltb-false) in
-    let other : getD s (a .at) 0 ≡ a .c → ⊥ = λ e. omega (arith, f .pre) in
+    let other : getD s (a .at) 0 ≡ a .c → ⊥ = λ e. omega (arith, start c .pre) in
     let q : a .at + 1 - (a .at + 1) ≡ 0 = omega arith in
     let z : 0 * 10 + (getD s (a .at) 0 - 48) ≡ getD s (a .at) 0 - 48 = omega arith in (
       sym (find-miss (a .c) s (a .at) h other),
@@ -59,66 +51,31 @@ loop-holds c =
       λ n. rw q (omega (arith, n)),
     )
 
-shared-slice-read-b : tie.Need-shared-slice-read-b Inv-loop μ-loop
-shared-slice-read-b c = search needs
-
-wrapping-sub-u8-requires : tie.Need-wrapping-sub-u8-requires Inv-loop μ-loop
-wrapping-sub-u8-requires c κs = search needs
-
-returns-3 : tie.Need-returns-3 Inv-loop μ-loop
-returns-3 c = λ q. absurd (q refl)
-
-add-if7 : tie.Need-add-if7 Inv-loop μ-loop
-add-if7 c = search needs
-
-returns-4 : tie.Need-returns-4 Inv-loop μ-loop
-returns-4 c = λ q. absurd (q refl)
-
-cast-t23 : tie.Need-cast-t23 Inv-loop μ-loop
-cast-t23 c = search needs
-
-add-t24 : tie.Need-add-t24 Inv-loop μ-loop
-add-t24 c = search needs
-
 returns-5 : tie.Need-returns-5 Inv-loop μ-loop
 returns-5 c = λ q.
-    let p = c .before .before .before .before .before in
-    let l = p .before .loop in
-    let a = p .before .before .before .before .before .before .before .args in
-    let short : l .k ≤ a .at + 9 = ⊎-elim (λ w. omega (arith, ltb-false (a .at + 1) (l .k) (w .1 .left))) (λ w. omega (arith, few (l .k - (a .at + 1)) (l .m) (l .inv .6 (w .left)) (l .inv .2))) (c .if6 .came) in
+    let ended = c .before .before in
+    let turn = ended .before .before .before .before in
+    let l = turn .loop in
+    let a = start (turn .before) .args in
+    let short : l .k ≤ a .at + 9 =
+    ⊎-elim (λ w. omega (arith, ltb-false (a .at + 1) (l .k) (w .1 .left)))
+    (λ w. omega (arith, few (l .k - (a .at + 1)) (l .m) (l .inv .6 (w .left)) (l .inv .2))) (c .if6 .came) in
     rw (toZ-pos w64 (l .m) (omega arith))
     (digits-seen _ _ _ (l .k) (l .m) (l .inv .3) (omega arith) (c .before .if5 .left) short
     (λ o z. ⊎-elim (λ w. omega (arith, ltb-false (a .at + 1) (l .k) (w .1 .left))) (λ w. w .left (l .inv .5 ∙ z)) (c .if6 .came)) (l .inv .0) (l .inv .1))
 
-returns-6 : tie.Need-returns-6 Inv-loop μ-loop
-returns-6 c = λ q. absurd (q refl)
-
-mul-m : tie.Need-mul-m Inv-loop μ-loop
-mul-m c = search needs
-
-cast-m-2 : tie.Need-cast-m-2 Inv-loop μ-loop
-cast-m-2 c = search needs
-
-add-m : tie.Need-add-m Inv-loop μ-loop
-add-m c = search needs
-
-add-k-2 : tie.Need-add-k-2 Inv-loop μ-loop
-add-k-2 c = search needs
-
-loop-less : tie.Need-loop-less Inv-loop μ-loop
-loop-less c = search needs
-
 loop-again : tie.Need-loop-again Inv-loop μ-loop
 loop-again c =
-    let p = c .before .before .before .before in
-    let l = p .before .loop in
-    let a = p .before .before .before .before .before .before .before .args in
+    let digit = c .before .before in
+    let turn = digit .before .before .before in
+    let l = turn .loop in
+    let a = start (turn .before) .args in
     let s = a .s .now in
     let h : l .k < length s = omega arith in
-    let d = c .before .before .wrapping-sub-u8 in
+    let d = digit .wrapping-sub-u8 in
     let nine : d .result ≤ 9 = c .before .if4 .left in
     let is : getD s (l .k) 0 ≡ d .result + 48 = omega (arith, d .ensures) in
-    let other : getD s (l .k) 0 ≡ a .c → ⊥ = λ e. omega (arith, p .before .before .before .before .before .before .before .pre) in
+    let other : getD s (l .k) 0 ≡ a .c → ⊥ = λ e. omega (arith, start (turn .before) .pre) in
     let minus : getD s (l .k) 0 - 48 ≡ d .result = omega arith in
     let q : l .k + 1 - (a .at + 1) ≡ suc (l .k - (a .at + 1)) = omega arith in (
       sym (find-miss (a .c) s (l .k) h other) ∙ l .inv .0,
@@ -130,34 +87,10 @@ loop-again c =
       λ n. rw (q, pow-suc) (omega (arith, l .inv .6 n)),
     )
 
-returns-7 : tie.Need-returns-7 Inv-loop μ-loop
-returns-7 c = λ q. absurd (q refl)
-
 pub number-spec : {M : Type 1} → statement M
 number-spec =
     tie.close
-    (tie.spec
-    Inv-loop
-    μ-loop
-    returns
-    shared-slice-read-first
-    returns-2
-    cast-m
-    add-k
-    loop-holds
-    shared-slice-read-b
-    wrapping-sub-u8-requires
-    returns-3
-    add-if7
-    returns-4
-    cast-t23
-    add-t24
-    returns-5
-    returns-6
-    mul-m
-    cast-m-2
-    add-m
-    add-k-2
-    loop-less
-    loop-again
-    returns-7)
+    (tie.spec Inv-loop μ-loop (λ c q. absurd (q refl)) (λ c. search needs) (λ c q. absurd (q refl)) cast-m (λ c. search needs) loop-holds
+    (λ c. search needs) (λ c κs. search needs) (λ c q. absurd (q refl)) (λ c. search needs) (λ c q. absurd (q refl)) (λ c. search needs)
+    (λ c. search needs) returns-5 (λ c q. absurd (q refl)) (λ c. search needs) (λ c. search needs) (λ c. search needs) (λ c. search needs)
+    (λ c. search needs) loop-again (λ c q. absurd (q refl)))
