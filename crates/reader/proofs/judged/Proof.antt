@@ -11,9 +11,6 @@ use Rattle.reader.proofs.Answering.{Looked, looked-all, looked-none, op
 use Rattle.reader.proofs.judged.Statement.{statement}
 use Rattle.reader.proofs.judged.Tie as tie
 
-opening-requires : tie.Need-opening-requires
-opening-requires c κs = search needs
-
 -- the text, from where it is known how much of it is looked at
 abbrev text : tie.Joined1 → List ℕ
 text c = let opened = c .before .before in opened .before .before .args .s .now
@@ -52,9 +49,4 @@ returns c =
 pub judged-spec : {M : Type 1} → statement M
 judged-spec =
     tie.close
-    (tie.spec
-    opening-requires
-    slice-aggregate-all-lines
-    all-lines-requires
-    verdict-requires
-    returns)
+    (tie.spec (λ c κs. search needs) slice-aggregate-all-lines all-lines-requires verdict-requires returns)

@@ -19,15 +19,6 @@ loop-holds : tie.Need-loop-holds Inv-loop μ-loop
 unfolding allRead every
 loop-holds c = (omega arith, refl)
 
-row-read-requires : tie.Need-row-read-requires Inv-loop μ-loop
-row-read-requires c κs = search needs
-
-add-row : tie.Need-add-row Inv-loop μ-loop
-add-row c = search needs
-
-loop-less : tie.Need-loop-less Inv-loop μ-loop
-loop-less c = search needs
-
 loop-again : tie.Need-loop-again Inv-loop μ-loop
 unfolding allRead
 loop-again c =
@@ -46,4 +37,5 @@ returns-2 c =
 
 pub all-read-spec : {M : Type 1} → statement M
 all-read-spec =
-    tie.close (tie.spec Inv-loop μ-loop loop-holds row-read-requires add-row loop-less loop-again returns returns-2)
+    tie.close
+    (tie.spec Inv-loop μ-loop loop-holds (λ c κs. search needs) (λ c. search needs) (λ c. search needs) loop-again returns returns-2)

@@ -20,24 +20,6 @@ loop-holds : tie.Need-loop-holds Inv-loop μ-loop
 unfolding every
 loop-holds c = (omega arith, refl)
 
-mul-cell : tie.Need-mul-cell Inv-loop μ-loop
-mul-cell c = search needs
-
-add-cell : tie.Need-add-cell Inv-loop μ-loop
-add-cell c = search needs
-
-mul-there : tie.Need-mul-there Inv-loop μ-loop
-mul-there c = search needs
-
-array-copy-out-there : tie.Need-array-copy-out-there Inv-loop μ-loop
-array-copy-out-there c = search needs
-
-add-stage : tie.Need-add-stage Inv-loop μ-loop
-add-stage c = search needs
-
-loop-less : tie.Need-loop-less Inv-loop μ-loop
-loop-less c = search needs
-
 loop-again : tie.Need-loop-again Inv-loop μ-loop
 loop-again c = (omega arith, every-more _ _ (eq-eqb _ 1 (c .if1 .taken)) (c .before .before .before .before .loop .inv .1))
 
@@ -53,16 +35,5 @@ returns-2 c =
 pub row-read-spec : {M : Type 1} → statement M
 row-read-spec =
     tie.close
-    (tie.spec
-    Inv-loop
-    μ-loop
-    loop-holds
-    mul-cell
-    add-cell
-    mul-there
-    array-copy-out-there
-    add-stage
-    loop-less
-    loop-again
-    returns
-    returns-2)
+    (tie.spec Inv-loop μ-loop loop-holds (λ c. search needs) (λ c. search needs) (λ c. search needs) (λ c. search needs) (λ c. search needs)
+    (λ c. search needs) loop-again returns returns-2)

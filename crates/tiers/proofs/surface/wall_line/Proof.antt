@@ -12,15 +12,11 @@ use Rattle.tiers.proofs.surface.wall_line.Tie as tie
 returns : tie.Need-returns
 returns c =
     let taken = c .before .before .before in
-    let read = taken .before .before in
-    let a = read .before .before .before .args in
     let t = taken .wall-of in
-    let d = read .due in
+    let d = taken .before .before .due in
     record {
-      after =
-          rw (c .before .ranged .ensures)
-          (line-after (a .s .now) (a .p) (d .result .place) wallLine (d .result .values) (t .result .fault)
-          (λ zs. wall (t .result .wall) ≡ wallOf (plain zs)) (d .ensures) (t .ensures .takes));
+      after = rw (c .before .ranged .ensures)
+          (line-after _ _ _ wallLine (d .result .values) _ (λ zs. wall (t .result .wall) ≡ wallOf (plain zs)) (d .ensures) (t .ensures .takes));
       least = t .ensures .least;
       most = t .ensures .most;
     }
