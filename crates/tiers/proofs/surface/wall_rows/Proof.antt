@@ -7,7 +7,7 @@ use mathlib.Core.Logic.{⊎-elim}
 use native.Mathlib.Omega.{arith}
 use borrow.Author.Needs.{needs}
 use lib.Dec.{ltb, leb}
-use lib.IntN.{ℤ, pos}
+use lib.IntN.{pos}
 use lib.ListN.{length, take, set, replicate, length-set, length-take, length-map}
 use lib.Signed.{ltZ}
 use Rattle.sheet.specs.declared.Reading.{Reading}
