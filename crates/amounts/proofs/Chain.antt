@@ -10,7 +10,7 @@ use lib.IntN.{ℤ, pos}
 use Rattle.limits.specs.declared.Number.{Number}
 use Rattle.limits.specs.Checked.{Measured}
 use Rattle.limits.proofs.Laws.{inside}
-use Rattle.lines.specs.Schema.{Field, Row, plain}
+use Rattle.document.specs.Schema.{Field, Row, plain}
 use Rattle.amounts.specs.Taking.{from, Taken}
 use Rattle.amounts.proofs.Ranges.{chained, chained-first}
 

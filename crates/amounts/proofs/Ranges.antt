@@ -9,7 +9,7 @@ use native.Mathlib.Omega.{arith}
 use lib.Dec.{eqb·suc-zero}
 use lib.IntN.{ℤ}
 use Rattle.limits.specs.Checked.{inRange, firstFault}
-use Rattle.lines.specs.Schema.{Field, within, outsideOf, on}
+use Rattle.document.specs.Schema.{Field, within, outsideOf, on}
 use Rattle.amounts.specs.Taking.{faultOf}
 
 -- the fault after some fields, with the fault before them

@@ -9,11 +9,11 @@ use Rattle.limits.specs.declared.Number.{Number}
 use Rattle.quantity.specs.declared.gas.Share.{Share}
 use Rattle.sheet.specs.Firing.{Stuff, Wall}
 use Rattle.sheet.specs.Shown.{same, stage}
-use Rattle.lines.specs.Schema.{Field, within, plain}
-use Rattle.lines.specs.Tests.{alike}
-use Rattle.lines.specs.Document01.{gasLine, stageLine, wallLine}
-use Rattle.lines.specs.Rows.{stageOf, wallOf}
-use Rattle.lines.specs.Rules.{Every}
+use Rattle.document.specs.Schema.{Field, within, plain}
+use Rattle.document.specs.Tests.{alike}
+use Rattle.document.specs.Document01.{gasLine, stageLine, wallLine}
+use Rattle.document.specs.Rows.{stageOf, wallOf}
+use Rattle.document.specs.Rules.{Every}
 use Rattle.amounts.specs.declared.GasTaken.{GasTaken}
 use Rattle.amounts.specs.declared.Wall.{Wall as Wallˢ}
 use Rattle.amounts.specs.declared.WallTaken.{WallTaken}

@@ -28,9 +28,9 @@ use sheet::Water;
 ghost use mathlib.Core.Path.{_≡_};
 ghost use lib.IntN.{pos};
 ghost use Rattle.sheet.specs.Shown.{same, stuff, fuel, ware, water, setter, part, section};
-ghost use Rattle.lines.specs.Schema.{plain};
-ghost use Rattle.lines.specs.Document01.{fuelLine, wareLine, waterLine, setterLine, partLine, sectionLine};
-ghost use Rattle.lines.specs.Rows.{fuelOf, wareOf, waterOf, setterOf, partOf, sectionOf};
+ghost use Rattle.document.specs.Schema.{plain};
+ghost use Rattle.document.specs.Document01.{fuelLine, wareLine, waterLine, setterLine, partLine, sectionLine};
+ghost use Rattle.document.specs.Rows.{fuelOf, wareOf, waterOf, setterOf, partOf, sectionOf};
 ghost use Rattle.amounts.specs.Taking.{plainNumbers, from, Taken, GasAfter, StageTakenAs, WallTakenAs, unsuited as unsuitedStuff};
 
 // The numbers of a line as numbers of the sheet.

@@ -11,10 +11,10 @@ use Rattle.pen.specs.Writing.{over}
 use Rattle.sheet.specs.declared.Refusal.the-variants.{Accepted, NoRoom}
 use Rattle.sheet.specs.Refusals.{number}
 use Rattle.sheet.specs.Firing.{Firing}
-use Rattle.lines.specs.Reader as lines
-use Rattle.lines.specs.Reader.{Refused, Good, readOf}
-use Rattle.lines.specs.Editions.{document}
-use Rattle.lines.specs.Rows.{firingOf}
+use Rattle.document.specs.Reader as lines
+use Rattle.document.specs.Reader.{Refused, Good, readOf}
+use Rattle.document.specs.Editions.{document}
+use Rattle.document.specs.Rows.{firingOf}
 use Rattle.formulas.specs.Report.{report, joulesText}
 use Rattle.answer.specs.declared.Answer.{Answer}
 

@@ -6,7 +6,7 @@ ghost use mir.Syntax.{w64};
 ghost use mir.Val.{SFits};
 ghost use Rattle.pen.specs.Writing.{Written};
 ghost use Rattle.sheet.specs.Refusals.{number};
-ghost use Rattle.lines.specs.Rules.{Every};
+ghost use Rattle.document.specs.Rules.{Every};
 ghost use Rattle.formulas.specs.Items.{shuttle};
 ghost use Rattle.formulas.specs.Report.{keys, linesText};
 ghost use Rattle.report.specs.Lengths.{reportMost};

@@ -18,11 +18,11 @@ use Rattle.arith.proofs.Machine.{range, arg, _⟨-⟩_, bound}
 use Rattle.arith.proofs.RootLaws.{root-is}
 use Rattle.sheet.specs.Firing.{Stage, Section, Firing}
 use Rattle.sheet.specs.Shown.{same as alike}
-use Rattle.lines.specs.Quantities.{product, ambient, heating, flue, monoxide, gasTotal}
-use Rattle.lines.specs.Rules.{Every}
-use Rattle.lines.specs.Rows.{firingOf}
-use Rattle.lines.specs.Limits.{In, StageIn, SectionIn, Limits}
-use Rattle.lines.proofs.Editions.{firing-limits}
+use Rattle.document.specs.Quantities.{product, ambient, heating, flue, monoxide, gasTotal}
+use Rattle.document.specs.Rules.{Every}
+use Rattle.document.specs.Rows.{firingOf}
+use Rattle.document.specs.Limits.{In, StageIn, SectionIn, Limits}
+use Rattle.document.proofs.Editions.{firing-limits}
 use Rattle.formulas.specs.Rounding.{Rounding, paper}
 use Rattle.formulas.specs.Formulas.{joule, sum, sensible, totalGas, q1, q2, q3, q5, q8, x1, x2, x3, x5, x10, dryFlue, vapourRate, vapour, dryHeat, vapourHeat, flueHeat, monoxideHeat, x7, x8, noStage, numbered, sectionOf, stageOf, convection, radiation, flux, wallHeat, x9, waterHeat, useful, withset}
 use Rattle.formulas.specs.Items.{Quantity, Item, item, Sides, shuttle, total, x11, heats}

@@ -6,10 +6,10 @@ use mathlib.Core.List.{List}
 use Rattle.text.specs.Number.{digitsRead, unsigned, numberWithin}
 use Rattle.text.specs.Decimal.{digitsIn, digits, decimal}
 use Rattle.text.specs.Scanning.{upTo, begins}
-use Rattle.lines.specs.Schema.{joined, bodyText, lineText, pieces, numbersOf, formedBy, outsideOf, judge}
-use Rattle.lines.specs.Reader.{rowsText, sheetText, textOf, readLine, readRows, readParts, Good, readOf}
-use Rattle.lines.specs.Editions.{entriesOf, document, sheetOf}
-use Rattle.lines.specs.Rules.{Every}
+use Rattle.document.specs.Schema.{joined, bodyText, lineText, pieces, numbersOf, formedBy, outsideOf, judge}
+use Rattle.document.specs.Reader.{rowsText, sheetText, textOf, readLine, readRows, readParts, Good, readOf}
+use Rattle.document.specs.Editions.{entriesOf, document, sheetOf}
+use Rattle.document.specs.Rules.{Every}
 use Rattle.formulas.specs.Marked.{worked}
 use Rattle.formulas.specs.Items.{shuttle}
 use Rattle.formulas.specs.Report.{lines}

@@ -8,10 +8,10 @@ use lib.IntN.{ℤ, pos, natAbs, _-ℤ_, _*ℤ_}
 use Rattle.arith.specs.Root.{root}
 use Rattle.text.specs.Bytes.{bytes}
 use Rattle.sheet.specs.Firing.{Wall, Firing}
-use Rattle.lines.specs.Reader.{Sheet, Good, readOf, sameKey}
-use Rattle.lines.specs.Editions.{document}
-use Rattle.lines.specs.Rules.{Every}
-use Rattle.lines.specs.Rows.{firingOf}
+use Rattle.document.specs.Reader.{Sheet, Good, readOf, sameKey}
+use Rattle.document.specs.Editions.{document}
+use Rattle.document.specs.Rules.{Every}
+use Rattle.document.specs.Rows.{firingOf}
 use Rattle.formulas.specs.Rounding.{Rounding, square, exact}
 use Rattle.formulas.specs.Formulas.{sum, sectionOf, stageOf}
 use Rattle.formulas.specs.Items.{sidesOf}

@@ -5,14 +5,14 @@ use lib.IntN.{ℤ, pos, _+ℤ_, _-ℤ_, _*ℤ_}
 use mir.Syntax.{w64}
 use mir.Val.{SFits}
 use Rattle.sheet.specs.Firing.{Stage}
-use Rattle.lines.specs.Quantities.{ambient, moisture}
-use Rattle.lines.specs.Rules.{Every}
-use Rattle.lines.specs.Limits.{In, StageIn}
+use Rattle.document.specs.Quantities.{ambient, moisture}
+use Rattle.document.specs.Rules.{Every}
+use Rattle.document.specs.Limits.{In, StageIn}
 use Rattle.formulas.specs.Rounding.{paper}
 use Rattle.formulas.specs.Formulas.{Burning, dryFlue}
 use Rattle.formulas.specs.Figures.{Within, Figure}
 use Rattle.formulas.specs.Sizes.{dryFlueMost, carriedMost}
-use Rattle.fuel.specs.Mixture.{BurningIn}
+use Rattle.burning.specs.Mixture.{BurningIn}
 
 pub record DryFits (excess dry air : ℤ) : Type 0 where
   pub more : SFits w64 (excess -ℤ pos 210)

@@ -16,9 +16,9 @@ use Rattle.arith.proofs.NearestLaws.{nearest-bound}
 use Rattle.arith.proofs.Order.{sfits-abs}
 use Rattle.arith.proofs.Span.{far}
 use Rattle.arith.proofs.Machine.{Known, small, range, Mx, raw, mean, span, bound}
-use Rattle.lines.specs.Schema.{Field}
-use Rattle.lines.specs.Limits.{In}
-use Rattle.lines.specs.Tests.{all}
+use Rattle.document.specs.Schema.{Field}
+use Rattle.document.specs.Limits.{In}
+use Rattle.document.specs.Tests.{all}
 use Rattle.formulas.specs.Rounding.{paper}
 use Rattle.formulas.specs.Figures.{Is, Within, Figure}
 use Rattle.formulas.proofs.Units.{same, rounds}

@@ -15,8 +15,8 @@ use mir.Val.{SFits, hbits}
 use Rattle.arith.proofs.Ring.{v, #, _⊕_, _⊗_, ring}
 use Rattle.arith.proofs.Order.{bound-add, sfits-abs}
 use Rattle.sheet.specs.declared.Stage.{Stage as Stageˢ}
-use Rattle.lines.specs.Tests.{sumOf}
-use Rattle.lines.specs.Rules.{Every}
+use Rattle.document.specs.Tests.{sumOf}
+use Rattle.document.specs.Rules.{Every}
 use Rattle.formulas.specs.Formulas.{sum}
 use Rattle.formulas.specs.Figures.{Is, Figure}
 use Rattle.formulas.proofs.Units.{plus}

@@ -8,8 +8,8 @@ use lib.IntN.{ℤ, pos, natAbs, _+ℤ_, _-ℤ_, _*ℤ_}
 use lib.ListN.{getD}
 use Rattle.sheet.specs.Firing.{Stuff, Gas, Stage, Section, Wall, Firing}
 use Rattle.sheet.specs.Shown.{same}
-use Rattle.lines.specs.Tests.{weigh}
-use Rattle.lines.specs.Rows.{gasRow}
+use Rattle.document.specs.Tests.{weigh}
+use Rattle.document.specs.Rows.{gasRow}
 use Rattle.formulas.specs.Rounding.{Rounding}
 use Rattle.formulas.specs.Tables.{lineOf, lineAt, tableA1}
 

@@ -3,8 +3,8 @@
 use Prim.Native.Nat.{ℕ, _+_, _*_, _/_, _^_, _-_, max}
 use mathlib.Core.List.{List, [], _∷_}
 use lib.IntN.{ℤ, pos, natAbs, _+ℤ_, _-ℤ_, _*ℤ_}
-use Rattle.lines.specs.Schema.{Field}
-use Rattle.lines.specs.Quantities.{ambient, heating, fuelTemperature, share, moisture, mass, temperature, capacity, flue, cubicMetres, excess, monoxide, minutes, area, surface, nearAir, gasTotal, stagesMost, settersMost, partsMost, sectionsMost}
+use Rattle.document.specs.Schema.{Field}
+use Rattle.document.specs.Quantities.{ambient, heating, fuelTemperature, share, moisture, mass, temperature, capacity, flue, cubicMetres, excess, monoxide, minutes, area, surface, nearAir, gasTotal, stagesMost, settersMost, partsMost, sectionsMost}
 use Rattle.formulas.specs.Rounding.{square}
 use Rattle.formulas.specs.Tables.{tableA1}
 use Rattle.formulas.specs.Formulas.{placed, fourth}

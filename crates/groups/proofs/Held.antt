@@ -11,20 +11,20 @@ use Rattle.quantity.specs.declared.gas.Share.{Share}
 use Rattle.sheet.specs.declared.Sheet.{Sheet as Sheetˢ}
 use Rattle.sheet.specs.Firing.{Section}
 use Rattle.sheet.specs.Shown.{gas, stage, setter, part, section, laid, unread}
-use Rattle.lines.specs.Schema.{Row, plain, at}
-use Rattle.lines.specs.Reader.{Sheet, rowsOf, one, filled, readLine, readPart, readParts, readLines}
-use Rattle.lines.specs.Rules.{Every}
-use Rattle.lines.specs.Rows.{gasOf, stageOf, setterOf, partOf, sectionOf, wallOf, first, editionIn, stageAs}
-use Rattle.lines.specs.Tests.{free}
-use Rattle.lines.specs.Entries.{partsOf}
-use Rattle.lines.specs.Document01.{sheetLine, endLine, heading, fuelling, drying, staging, loading, surfaces, ending}
-use Rattle.lines.specs.Editions.{entriesOf, linesOf, document}
+use Rattle.document.specs.Schema.{Row, plain, at}
+use Rattle.document.specs.Reader.{Sheet, rowsOf, one, filled, readLine, readPart, readParts, readLines}
+use Rattle.document.specs.Rules.{Every}
+use Rattle.document.specs.Rows.{gasOf, stageOf, setterOf, partOf, sectionOf, wallOf, first, editionIn, stageAs}
+use Rattle.document.specs.Tests.{free}
+use Rattle.document.specs.Entries.{partsOf}
+use Rattle.document.specs.Document01.{sheetLine, endLine, heading, fuelling, drying, staging, loading, surfaces, ending}
+use Rattle.document.specs.Editions.{entriesOf, linesOf, document}
 use Rattle.walls.proofs.Readings.{Placed}
 use Rattle.blank.specs.Blank.{blankStage, blankSetter, blankPart, blankSection}
 use Rattle.amounts.specs.Taking.{shares}
-use Rattle.entries.specs.declared.Place.{Place}
-use Rattle.entries.specs.Place.{good, After}
-use Rattle.entries.proofs.Places.{after-bind, after-weaker}
+use Rattle.due.specs.declared.Place.{Place}
+use Rattle.due.specs.Place.{good, After}
+use Rattle.due.proofs.Places.{after-bind, after-weaker}
 use Rattle.records.specs.declared.head.EditionLine.{EditionLine}
 use Rattle.records.specs.declared.head.ClosingLine.{ClosingLine}
 use Rattle.tiers.proofs.Fills.{filled-most}

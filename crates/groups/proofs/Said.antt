@@ -3,12 +3,12 @@ use Prim.Native.Nat.{ℕ}
 use mathlib.Core.Path.{_≡_, refl, sym, ap, _∙_, subst}
 use mathlib.Core.Bool.{Bool, true, false, not, _&&_}
 use mathlib.Core.List.{List, [], _∷_, _++_}
-use Rattle.lines.specs.Schema.{Line, Row}
-use Rattle.lines.specs.Reader.{Sheet, sameKey, rowsOf, Rule, Part, one, readLine, filled, readPart, readParts}
-use Rattle.lines.proofs.Cases.{both, clash}
-use Rattle.entries.specs.declared.Place.{Place}
-use Rattle.entries.specs.Place.{good, Fair, After}
-use Rattle.entries.proofs.Places.{after-weaker}
+use Rattle.document.specs.Schema.{Line, Row}
+use Rattle.document.specs.Reader.{Sheet, sameKey, rowsOf, Rule, Part, one, readLine, filled, readPart, readParts}
+use Rattle.document.proofs.Cases.{both, clash}
+use Rattle.due.specs.declared.Place.{Place}
+use Rattle.due.specs.Place.{good, Fair, After}
+use Rattle.due.proofs.Places.{after-weaker}
 use Rattle.tiers.specs.Filling.{With}
 use Rattle.tiers.specs.Surface.{lacks}
 use Rattle.tiers.proofs.Above.{rows-other}

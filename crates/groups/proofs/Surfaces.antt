@@ -6,12 +6,12 @@ use mathlib.Core.List.{List, [], _∷_, _++_, map}
 use lib.ListN.{length, replicate, length-replicate, length-map}
 use Rattle.text.specs.Bytes.{bytes}
 use Rattle.sheet.specs.Firing.{Section}
-use Rattle.lines.specs.Schema.{Row, plain}
-use Rattle.lines.specs.Reader.{Sheet, rowsOf, filled}
-use Rattle.lines.specs.Rows.{sectionRow, sectionOf, stageOf, editionIn, stageAs, stagesIn}
-use Rattle.lines.specs.Document01.{stageLine, sectionLine}
-use Rattle.entries.specs.declared.Place.{Place}
-use Rattle.entries.specs.Place.{good, Fair}
+use Rattle.document.specs.Schema.{Row, plain}
+use Rattle.document.specs.Reader.{Sheet, rowsOf, filled}
+use Rattle.document.specs.Rows.{sectionRow, sectionOf, stageOf, editionIn, stageAs, stagesIn}
+use Rattle.document.specs.Document01.{stageLine, sectionLine}
+use Rattle.due.specs.declared.Place.{Place}
+use Rattle.due.specs.Place.{good, Fair}
 use Rattle.tiers.specs.declared.surface.WallRows.{WallRows}
 use Rattle.tiers.proofs.Above.{rows-other}
 use Rattle.groups.specs.Blocks.{WallsRead}

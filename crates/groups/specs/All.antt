@@ -7,18 +7,18 @@ use Rattle.quantity.specs.declared.sheet.Edition.{Edition}
 use Rattle.sheet.specs.declared.Head.{Head}
 use Rattle.sheet.specs.declared.Sheet.{Sheet as Sheetˢ}
 use Rattle.sheet.specs.Shown.{Shows}
-use Rattle.lines.specs.Reader.{Sheet, readLines}
-use Rattle.lines.specs.Editions.{document}
-use Rattle.lines.specs.Rows.{stagesIn, sectionsIn, wallsIn, firingOf}
-use Rattle.lines.specs.Rules.{Every}
+use Rattle.document.specs.Reader.{Sheet, readLines}
+use Rattle.document.specs.Editions.{document}
+use Rattle.document.specs.Rows.{stagesIn, sectionsIn, wallsIn, firingOf}
+use Rattle.document.specs.Rules.{Every}
 use Rattle.walls.proofs.Sections.{Distinct}
 use Rattle.walls.proofs.Readings.{Placed}
-use Rattle.entries.specs.declared.Place.{Place}
+use Rattle.due.specs.declared.Place.{Place}
 use Rattle.groups.specs.declared.tops.Heading.{Heading}
 use Rattle.groups.specs.declared.tops.Fuelling.{Fuelling}
 use Rattle.groups.specs.declared.tops.Drying.{Drying}
 use Rattle.groups.specs.declared.all.Lines.{Lines}
-use Rattle.entries.specs.Place.{After}
+use Rattle.due.specs.Place.{After}
 use Rattle.tiers.specs.Stages.{SmallGas}
 use Rattle.blank.specs.Blank.{blankStage, blankSetter, blankPart, blankSection}
 

@@ -10,15 +10,15 @@ use Rattle.sheet.specs.declared.Parts.{Parts}
 use Rattle.sheet.specs.declared.Sections.{Sections}
 use Rattle.sheet.specs.Firing.{Section}
 use Rattle.sheet.specs.Shown.{stage, setter, part, section}
-use Rattle.lines.specs.Schema.{Row}
-use Rattle.lines.specs.Reader.{Sheet, readPart, readParts}
-use Rattle.lines.specs.Rules.{Every}
-use Rattle.lines.specs.Rows.{stageOf, setterOf, partOf, stagesIn, sectionsIn}
-use Rattle.lines.specs.Entries.{partsOf}
-use Rattle.lines.specs.Document01.{stageLine, setterLine, partLine, sectionLine, wallLine, setters, parts, sections, walls, staging, surfaces}
+use Rattle.document.specs.Schema.{Row}
+use Rattle.document.specs.Reader.{Sheet, readPart, readParts}
+use Rattle.document.specs.Rules.{Every}
+use Rattle.document.specs.Rows.{stageOf, setterOf, partOf, stagesIn, sectionsIn}
+use Rattle.document.specs.Entries.{partsOf}
+use Rattle.document.specs.Document01.{stageLine, setterLine, partLine, sectionLine, wallLine, setters, parts, sections, walls, staging, surfaces}
 use Rattle.blank.specs.Blank.{blankStage, blankSetter, blankPart}
-use Rattle.entries.specs.declared.Place.{Place}
-use Rattle.entries.specs.Place.{good, Fair, After}
+use Rattle.due.specs.declared.Place.{Place}
+use Rattle.due.specs.Place.{good, Fair, After}
 use Rattle.tiers.specs.declared.surface.WallRows.{WallRows}
 use Rattle.tiers.specs.Filling.{Filled, With}
 use Rattle.tiers.specs.Stages.{SmallGas}

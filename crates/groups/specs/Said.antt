@@ -3,11 +3,11 @@ use Prim.Native.Nat.{ℕ}
 use mathlib.Core.Path.{_≡_}
 use mathlib.Core.Bool.{true, false}
 use mathlib.Core.List.{List, [], _∷_, _++_}
-use Rattle.lines.specs.Schema.{Line, Row}
-use Rattle.lines.specs.Reader.{Sheet, Part, filled, readParts}
-use Rattle.lines.specs.Rows.{first}
-use Rattle.entries.specs.declared.Place.{Place}
-use Rattle.entries.specs.Place.{good, Fair, After}
+use Rattle.document.specs.Schema.{Line, Row}
+use Rattle.document.specs.Reader.{Sheet, Part, filled, readParts}
+use Rattle.document.specs.Rows.{first}
+use Rattle.due.specs.declared.Place.{Place}
+use Rattle.due.specs.Place.{good, Fair, After}
 
 pub record Saying : Type 1 where
   pub line : Line

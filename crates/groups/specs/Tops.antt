@@ -2,9 +2,9 @@
 use mathlib.Core.Path.{_≡_}
 use mathlib.Core.List.{List, [], _∷_}
 use Rattle.sheet.specs.Shown.{fuel, ware, water}
-use Rattle.lines.specs.Schema.{at}
-use Rattle.lines.specs.Document01.{firingLine, productLine, ambientLine, fuelLine, gasLine, airLine, wareLine, waterLine, clayLine}
-use Rattle.lines.specs.Rows.{fuelOf, wareOf, waterOf}
+use Rattle.document.specs.Schema.{at}
+use Rattle.document.specs.Document01.{firingLine, productLine, ambientLine, fuelLine, gasLine, airLine, wareLine, waterLine, clayLine}
+use Rattle.document.specs.Rows.{fuelOf, wareOf, waterOf}
 use Rattle.amounts.specs.Taking.{shares}
 use Rattle.groups.specs.declared.tops.Heading.{Heading}
 use Rattle.groups.specs.declared.tops.Fuelling.{Fuelling}

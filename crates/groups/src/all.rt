@@ -1,6 +1,6 @@
 // All lines of a sheet, from the first to the last.
 ghost use mathlib.Core.Path.{_≡_};
-ghost use Rattle.entries.specs.Place.{Ready};
+ghost use Rattle.due.specs.Place.{Ready};
 ghost use Rattle.groups.specs.All.{headOf, LinesRead};
 use crate::parts::loading_lines;
 use crate::parts::staging_lines;
@@ -11,7 +11,7 @@ use crate::tops::Heading;
 use crate::tops::drying_lines;
 use crate::tops::fuelling_lines;
 use crate::tops::heading_lines;
-use entries::Place;
+use due::Place;
 use quantity::sheet::Edition;
 use records::head::closing_line;
 use records::head::edition_line;

@@ -1,11 +1,11 @@
 // The lines above the stages, in the groups of the definitions.
-ghost use Rattle.lines.specs.Entries.{partsOf};
-ghost use Rattle.lines.specs.Document01.{heading, fuelling, drying};
-ghost use Rattle.entries.specs.Place.{Ready};
+ghost use Rattle.document.specs.Entries.{partsOf};
+ghost use Rattle.document.specs.Document01.{heading, fuelling, drying};
+ghost use Rattle.due.specs.Place.{Ready};
 ghost use Rattle.groups.specs.Said.{GroupRead};
 ghost use Rattle.groups.specs.Tops.{headingSays, fuellingSays, dryingSays};
-use entries::Place;
-use entries::gas::gas_line;
+use due::Place;
+use due::gas::gas_line;
 use quantity::gas::Moisture;
 use quantity::gas::Share;
 use quantity::mass::Kilos;

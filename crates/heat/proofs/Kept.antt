@@ -12,7 +12,7 @@ use Rattle.arith.proofs.Order.{sfits-abs}
 use Rattle.sheet.specs.declared.Sheet.{Sheet}
 use Rattle.sheet.specs.Firing.{Firing}
 use Rattle.sheet.specs.Shown.{firing}
-use Rattle.lines.specs.Limits.{Limits}
+use Rattle.document.specs.Limits.{Limits}
 use Rattle.formulas.specs.Figures.{Is, Within, Figure}
 use Rattle.formulas.specs.Items.{Quantity}
 use Rattle.formulas.specs.Sizes.{heatMost}

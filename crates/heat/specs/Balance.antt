@@ -5,7 +5,7 @@ use lib.IntN.{ℤ}
 use Rattle.sheet.specs.declared.Sheet.{Sheet}
 use Rattle.sheet.specs.Firing.{Firing}
 use Rattle.sheet.specs.Shown.{Shows}
-use Rattle.lines.specs.Limits.{Limits}
+use Rattle.document.specs.Limits.{Limits}
 use Rattle.heat.specs.declared.Heats.{Heats}
 use Rattle.formulas.specs.Rounding.{paper}
 use Rattle.formulas.specs.Formulas.{joule, q1, q2, q3, q5, q8, x1, x2, x3, x5, x7, x8, x9, x10, waterHeat}

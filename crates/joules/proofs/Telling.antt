@@ -4,10 +4,10 @@ use mathlib.Core.Path.{_≡_, refl, sym, ap}
 use mathlib.Core.Bool.{false}
 use mathlib.Core.List.{List}
 use Rattle.sheet.specs.Refusals.{number}
-use Rattle.lines.specs.Reader.{Answer, Refused, Good, readOf}
-use Rattle.lines.specs.Editions.{document}
-use Rattle.lines.specs.Rows.{firingOf}
-use Rattle.lines.proofs.Cases.{clash}
+use Rattle.document.specs.Reader.{Answer, Refused, Good, readOf}
+use Rattle.document.specs.Editions.{document}
+use Rattle.document.specs.Rows.{firingOf}
+use Rattle.document.proofs.Cases.{clash}
 use Rattle.formulas.specs.Report.{joulesText}
 use Rattle.reader.specs.declared.whole.Outcome.{Outcome}
 use Rattle.reader.specs.Whole.{Answers}

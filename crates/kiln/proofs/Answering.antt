@@ -5,10 +5,10 @@ use mathlib.Core.List.{List}
 use lib.ListN.{length}
 use Rattle.sheet.specs.declared.Refusal.{Refusal}
 use Rattle.sheet.specs.Refusals.{number}
-use Rattle.lines.specs.Reader.{Sheet, Refused, Good, readOf}
-use Rattle.lines.specs.Editions.{document}
-use Rattle.lines.specs.Rows.{firingOf}
-use Rattle.lines.proofs.Cases.{clash}
+use Rattle.document.specs.Reader.{Sheet, Refused, Good, readOf}
+use Rattle.document.specs.Editions.{document}
+use Rattle.document.specs.Rows.{firingOf}
+use Rattle.document.proofs.Cases.{clash}
 use Rattle.formulas.specs.Report.{report}
 use Rattle.report.specs.Lengths.{reportMost}
 use Rattle.answer.specs.declared.Answer.{Answer}

@@ -6,11 +6,11 @@ use native.Mathlib.Nat.{le-trans, zero-add}
 use native.Mathlib.Omega.{arith}
 use lib.ListN.{length}
 use Rattle.pen.specs.Writing.{over, Written}
-use Rattle.lines.specs.Reader as lines
-use Rattle.lines.specs.Reader.{Sheet, Refused, Good, readOf}
-use Rattle.lines.specs.Editions.{document}
-use Rattle.lines.specs.Rows.{firingOf}
-use Rattle.lines.proofs.Numbering.{refuses}
+use Rattle.document.specs.Reader as lines
+use Rattle.document.specs.Reader.{Sheet, Refused, Good, readOf}
+use Rattle.document.specs.Editions.{document}
+use Rattle.document.specs.Rows.{firingOf}
+use Rattle.document.proofs.Numbering.{refuses}
 use Rattle.formulas.specs.Report.{report}
 use Rattle.report.specs.Lengths.{reportMost}
 use Rattle.answer.specs.declared.Answer.{Answer}

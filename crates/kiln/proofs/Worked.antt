@@ -9,9 +9,9 @@ use Rattle.text.specs.Bytes.{bytes}
 use Rattle.text.specs.Number.{digitsRead, unsigned, numberWithin}
 use Rattle.text.specs.Decimal.{digitsIn, digits, decimal, line}
 use Rattle.text.specs.Scanning.{upTo, begins}
-use Rattle.lines.specs.Schema.{pieces, numbersOf, formedBy, outsideOf, judge}
-use Rattle.lines.specs.Reader.{readLine, readRows, readParts, readOf}
-use Rattle.lines.specs.Editions.{entriesOf}
+use Rattle.document.specs.Schema.{pieces, numbersOf, formedBy, outsideOf, judge}
+use Rattle.document.specs.Reader.{readLine, readRows, readParts, readOf}
+use Rattle.document.specs.Editions.{entriesOf}
 use Rattle.formulas.specs.Formulas.{sum, specificHeat, sensible, mixedHeat, theoreticalAir, dryOfGas, vapourOfGas, ofGas, dryFlue, vapourRate, vapour, dryHeat, vapourHeat, flueHeat, monoxideHeat, numbered, convection, radiation, flux, wallHeat, q1, q2, q3, q5, q8, x1, x2, x3, x5, x7, x8, x9, x10, waterHeat, useful, withset}
 use Rattle.formulas.specs.Items.{total, x11, heats}
 use Rattle.formulas.specs.Report.{lines, printed, linesText, keys, figures, report}

@@ -3,9 +3,9 @@ use Prim.Native.Nat.{ℕ, _≤_}
 use mathlib.Core.Path.{_≡_}
 use mathlib.Core.List.{List}
 use lib.ListN.{length}
-use Rattle.lines.specs.Reader.{Sheet, Good, readOf}
-use Rattle.lines.specs.Editions.{document}
-use Rattle.lines.specs.Rows.{firingOf}
+use Rattle.document.specs.Reader.{Sheet, Good, readOf}
+use Rattle.document.specs.Editions.{document}
+use Rattle.document.specs.Rows.{firingOf}
 use Rattle.formulas.specs.Report.{report}
 use Rattle.report.specs.Lengths.{reportMost}
 

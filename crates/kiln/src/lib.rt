@@ -25,7 +25,7 @@ fn answered(sheet: &[u8], room: &mut [u8]) -> Answer
         let figures = report::figures(head.firing, head.product, heats);
         return reported(&figures, room);
     }
-    let why = entries::coded::refusal_of(p.kind, p.field);
+    let why = due::coded::refusal_of(p.kind, p.field);
     refused(why, p.line)
 }
 

@@ -13,23 +13,23 @@ use Rattle.sheet.specs.declared.Refusal.the-variants.{Accepted, TooLong, Surplu
 use Rattle.sheet.specs.declared.Sheet.{Sheet as Sheetˢ}
 use Rattle.sheet.specs.Firing.{Firing, Stage}
 use Rattle.sheet.specs.Shown.{Shows, stage}
-use Rattle.lines.specs.Schema.{on, within}
-use Rattle.lines.specs.Quantities.{gasTotal}
-use Rattle.lines.specs.Reader.{Sheet, Read, stopped, got, readLines, Answer, Refused, Good, judgedWhole, readOf}
-use Rattle.lines.specs.Tests.{all, counted, isRead, when, _else_, sumOf}
-use Rattle.lines.specs.Editions.{document}
-use Rattle.lines.specs.Rows.{stagesIn, sectionsIn, wallsIn, firingOf}
-use Rattle.lines.specs.Limits.{Limits}
-use Rattle.lines.proofs.Editions.{firing-limits}
+use Rattle.document.specs.Schema.{on, within}
+use Rattle.document.specs.Quantities.{gasTotal}
+use Rattle.document.specs.Reader.{Sheet, Read, stopped, got, readLines, Answer, Refused, Good, judgedWhole, readOf}
+use Rattle.document.specs.Tests.{all, counted, isRead, when, _else_, sumOf}
+use Rattle.document.specs.Editions.{document}
+use Rattle.document.specs.Rows.{stagesIn, sectionsIn, wallsIn, firingOf}
+use Rattle.document.specs.Limits.{Limits}
+use Rattle.document.proofs.Editions.{firing-limits}
 use Rattle.walls.specs.Walls.{allRead}
 use Rattle.walls.proofs.Document.{missing-is}
-use Rattle.entries.specs.declared.Place.{Place}
+use Rattle.due.specs.declared.Place.{Place}
 use Rattle.groups.specs.declared.all.Lines.{Lines}
 use Rattle.groups.specs.All.{Held, Sized}
 use Rattle.reader.specs.declared.whole.Outcome.{Outcome}
-use Rattle.entries.specs.Place.{good, reason, refusedAt, Fair, Ready, Meets, After}
+use Rattle.due.specs.Place.{good, reason, refusedAt, Fair, Ready, Meets, After}
 use Rattle.reader.specs.Whole.{top, openingAs, gasOf, wholeAs, verdictAs, Judged, rejectedAs, Answers}
-use Rattle.entries.proofs.Places.{not-both, is-good, refused-bad, refused-why}
+use Rattle.due.proofs.Places.{not-both, is-good, refused-bad, refused-why}
 
 map-twice : {A B C : Type 0} (g : B → C) (f : A → B) (l : List A) → map g (map f l) ≡ map (λ x. g (f x)) l
 map-twice g f [] = refl

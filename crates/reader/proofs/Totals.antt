@@ -8,7 +8,7 @@ use lib.ListN.{length, getD, take}
 use lib.Seq.{take-suc}
 use Rattle.arith.proofs.Ring.{v, #, _⊕_, ring}
 use Rattle.sheet.specs.declared.Stage.{Stage}
-use Rattle.lines.specs.Tests.{sumOf}
+use Rattle.document.specs.Tests.{sumOf}
 
 sum-end : (zs : List ℤ) (z : ℤ) → sumOf (zs ++ (z ∷ [])) ≡ sumOf zs +ℤ z
 sum-end [] z = ring (z ∷ []) (v 0 ⊕ # 0) (# 0 ⊕ v 0) tt

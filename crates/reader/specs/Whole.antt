@@ -10,17 +10,17 @@ use Rattle.sheet.specs.declared.Sheet.{Sheet as Sheetˢ}
 use Rattle.sheet.specs.declared.Refusal.{Refusal}
 use Rattle.sheet.specs.declared.Refusal.the-variants.{Accepted, TooLong, Surplus, Missing, GasTotal}
 use Rattle.sheet.specs.Shown.{Shows}
-use Rattle.lines.specs.Schema.{within}
-use Rattle.lines.specs.Quantities.{gasTotal}
-use Rattle.lines.specs.Reader.{Answer, Refused, Good}
-use Rattle.lines.specs.Tests.{sumOf}
-use Rattle.lines.specs.Rows.{firingOf}
+use Rattle.document.specs.Schema.{within}
+use Rattle.document.specs.Quantities.{gasTotal}
+use Rattle.document.specs.Reader.{Answer, Refused, Good}
+use Rattle.document.specs.Tests.{sumOf}
+use Rattle.document.specs.Rows.{firingOf}
 use Rattle.walls.specs.Walls.{allRead}
-use Rattle.entries.specs.declared.Place.{Place}
+use Rattle.due.specs.declared.Place.{Place}
 use Rattle.groups.specs.declared.all.Lines.{Lines}
 use Rattle.groups.specs.All.{Trimmed}
 use Rattle.reader.specs.declared.whole.Outcome.{Outcome}
-use Rattle.entries.specs.Place.{good, refusedAt}
+use Rattle.due.specs.Place.{good, refusedAt}
 use Rattle.blank.specs.Blank.{blankSheet}
 
 -- before the first line

@@ -4,13 +4,13 @@ mod whole;
 use crate::whole::opening;
 use crate::whole::rejected;
 use crate::whole::verdict;
-use entries::coded::refusal_of;
+use due::coded::refusal_of;
 use groups::all::Lines;
 use groups::all::all_lines;
 use sheet::Refusal;
 pub use whole::Outcome;
-ghost use Rattle.lines.specs.Editions.{document};
-ghost use Rattle.lines.specs.Reader.{readOf};
+ghost use Rattle.document.specs.Editions.{document};
+ghost use Rattle.document.specs.Reader.{readOf};
 ghost use Rattle.reader.specs.Whole.{Judged, Answers};
 
 // The firing that a sheet gives and a place that is not refused, or the first rule that the sheet breaks as the place; what the firing

@@ -9,15 +9,15 @@ use lib.ListN.{length, getD}
 use Rattle.limits.specs.declared.Number.{Number}
 use Rattle.limits.specs.Checked.{Counted}
 use Rattle.limits.proofs.Laws.{count-within}
-use Rattle.lines.specs.Schema.{Line}
-use Rattle.lines.specs.Reader.{countLine, readLine}
+use Rattle.document.specs.Schema.{Line}
+use Rattle.document.specs.Reader.{countLine, readLine}
 use Rattle.amounts.specs.Taking.{from}
 use Rattle.amounts.proofs.Chain.{Chain, _&_, done, taken}
-use Rattle.entries.specs.declared.Place.{Place}
-use Rattle.entries.specs.Place.{After, ranged}
-use Rattle.entries.specs.Form.{formOf}
+use Rattle.due.specs.declared.Place.{Place}
+use Rattle.due.specs.Place.{After, ranged}
+use Rattle.due.specs.Form.{formOf}
 use Rattle.records.specs.Read.{CountAfter}
-use Rattle.entries.proofs.Lines.{line-after}
+use Rattle.due.proofs.Lines.{line-after}
 
 pub alone : {s : List ℕ} {p q q′ : Place} {fault : ℕ} (l : Line) (v : List Number) (x : ℤ)
     → After s p (formOf l) q (λ row. from 0 (length (l .fields)) v ≡ row .numbers)

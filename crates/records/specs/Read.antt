@@ -5,12 +5,12 @@ use mathlib.Core.List.{List}
 use mathlib.Core.Option.{none}
 use lib.IntN.{pos, natAbs}
 use Rattle.sheet.specs.Shown.{stage}
-use Rattle.lines.specs.Schema.{Line, at}
-use Rattle.lines.specs.Reader.{readLine}
-use Rattle.lines.specs.Document01.{stageLine}
-use Rattle.lines.specs.Rows.{stageOf}
-use Rattle.entries.specs.declared.Place.{Place}
-use Rattle.entries.specs.Place.{After}
+use Rattle.document.specs.Schema.{Line, at}
+use Rattle.document.specs.Reader.{readLine}
+use Rattle.document.specs.Document01.{stageLine}
+use Rattle.document.specs.Rows.{stageOf}
+use Rattle.due.specs.declared.Place.{Place}
+use Rattle.due.specs.Place.{After}
 use Rattle.records.specs.declared.blocks.StageLine.{StageLine}
 
 -- the code has read a count line: its number, which is never above the greatest

@@ -19,7 +19,7 @@ use Rattle.arith.proofs.Order.{abs-mul, sfits-abs}
 use Rattle.arith.proofs.NearestLaws.{nearest-scaled, nearest-exact}
 use Rattle.arith.proofs.Machine.{raw, num, _⟨*⟩_}
 use Rattle.sheet.specs.Firing.{Firing}
-use Rattle.lines.specs.Limits.{Limits}
+use Rattle.document.specs.Limits.{Limits}
 use Rattle.formulas.specs.Rounding.{paper}
 use Rattle.formulas.specs.Formulas.{joule, totalGas, q1, useful, withset}
 use Rattle.formulas.specs.Items.{Quantity, Item, item, shuttle, heats, heatCount}

@@ -12,7 +12,7 @@ use denote.Shadow.{shadow}
 use denote.Signed.{SInt}
 use Rattle.text.specs.Decimal.{line, decimal}
 use Rattle.text.proofs.Decimal.{length-line, i64-width}
-use Rattle.lines.specs.Rules.{Every}
+use Rattle.document.specs.Rules.{Every}
 use Rattle.formulas.specs.Items.{shuttle, heats}
 use Rattle.formulas.specs.Report.{lines, keys, heatKeys, linesText}
 use Rattle.report.specs.Lengths.{keyMost, lineMost, reportMost, heatsMost}

@@ -7,7 +7,7 @@ use lib.Signed.{_<ℤ_}
 use mir.Syntax.{w64}
 use mir.Val.{SFits}
 use Rattle.sheet.specs.Firing.{Firing}
-use Rattle.lines.specs.Limits.{Limits}
+use Rattle.document.specs.Limits.{Limits}
 use Rattle.heat.specs.Balance.{Balanced}
 
 -- so many times a heat can be divided by a number

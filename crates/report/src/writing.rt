@@ -8,7 +8,7 @@ ghost use mir.Syntax.{w64};
 ghost use mir.Val.{SFits};
 ghost use Rattle.text.specs.Decimal.{line};
 ghost use Rattle.pen.specs.Writing.{Written};
-ghost use Rattle.lines.specs.Rules.{Every};
+ghost use Rattle.document.specs.Rules.{Every};
 ghost use Rattle.formulas.specs.Items.{shuttle};
 ghost use Rattle.formulas.specs.Report.{keys, heatKeys, lineCount, linesText};
 ghost use Rattle.report.specs.Lengths.{lineMost, reportMost, heatsMost};

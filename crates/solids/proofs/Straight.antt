@@ -6,7 +6,7 @@ use lib.Dec.{T, leb, leb→le}
 use lib.IntN.{ℤ, pos, natAbs}
 use Rattle.arith.proofs.Ring.{both-left, both-right}
 use Rattle.arith.proofs.Machine.{Known, raw, num, _⟨*⟩_, _⟨+⟩_}
-use Rattle.lines.specs.Quantities.{temperature}
+use Rattle.document.specs.Quantities.{temperature}
 use Rattle.formulas.specs.declared.Line.{Line}
 use Rattle.formulas.specs.Tables.{tableA2, line, lineAt}
 use Rattle.formulas.specs.Formulas.{byTable}

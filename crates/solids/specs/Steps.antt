@@ -10,9 +10,9 @@ use Rattle.sheet.specs.declared.Setters.{Setters as Settersˢ}
 use Rattle.sheet.specs.declared.Parts.{Parts as Partsˢ}
 use Rattle.sheet.specs.Firing.{Stuff, Ware, Water, Setter, Part}
 use Rattle.sheet.specs.Shown.{setter, part}
-use Rattle.lines.specs.Quantities.{product, ambient, mass, temperature}
-use Rattle.lines.specs.Rules.{Every}
-use Rattle.lines.specs.Limits.{In, StuffIn, WareIn, WaterIn}
+use Rattle.document.specs.Quantities.{product, ambient, mass, temperature}
+use Rattle.document.specs.Rules.{Every}
+use Rattle.document.specs.Limits.{In, StuffIn, WareIn, WaterIn}
 use Rattle.formulas.specs.Tables.{lineOf, lineAt}
 use Rattle.formulas.specs.Figures.{Within}
 use Rattle.formulas.specs.Sizes.{greatest}

@@ -3,10 +3,10 @@ use Prim.Native.Nat.{ℕ}
 use mathlib.Core.Path.{_≡_, refl}
 use mathlib.Core.Bool.{Bool, true, false, cond, not, _&&_}
 use mathlib.Core.List.{List, [], _∷_, _++_}
-use Rattle.lines.specs.Schema.{Line, Row}
-use Rattle.lines.specs.Reader.{Sheet, filled, sameKey, rowsOf}
-use Rattle.lines.proofs.Forms.{same-key}
-use Rattle.lines.proofs.Cases.{clash}
+use Rattle.document.specs.Schema.{Line, Row}
+use Rattle.document.specs.Reader.{Sheet, filled, sameKey, rowsOf}
+use Rattle.document.proofs.Forms.{same-key}
+use Rattle.document.proofs.Cases.{clash}
 use Rattle.tiers.specs.Surface.{lacks}
 
 pub funext : {A B : Type 0} {f g : A → B} → ((x : A) → f x ≡ g x) → f ≡ g

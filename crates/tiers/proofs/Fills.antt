@@ -7,12 +7,12 @@ use native.Mathlib.Numerals.{add-one}
 use native.Mathlib.Omega.{arith}
 use lib.ListN.{length, take, drop, set, replicate, length-set, length-append, length-replicate, length-map, length-take}
 use lib.Seq.{take-suc-set, drop-drop, drop-set-lt}
-use Rattle.lines.specs.Schema.{Line, Row}
-use Rattle.lines.specs.Reader.{Sheet, Rule, filled, readLine, readRows}
-use Rattle.entries.specs.declared.Place.{Place}
-use Rattle.entries.specs.Place.{good, Fair, Ready, After}
+use Rattle.document.specs.Schema.{Line, Row}
+use Rattle.document.specs.Reader.{Sheet, Rule, filled, readLine, readRows}
+use Rattle.due.specs.declared.Place.{Place}
+use Rattle.due.specs.Place.{good, Fair, Ready, After}
 use Rattle.tiers.specs.Filling.{Filled}
-use Rattle.entries.proofs.Places.{after-weaker, ready-after}
+use Rattle.due.proofs.Places.{after-weaker, ready-after}
 use Rattle.tiers.proofs.Sequence.{block-start, block-more}
 
 module _ {A B : Type 0} (view : A → B) (of : Row → B) (blank : A) (most : ℕ) where

@@ -6,13 +6,13 @@ use mathlib.Core.List.{List, [], _∷_, _++_}
 use mathlib.Core.Option.{none}
 use lib.ListN.{getD, drop}
 use lib.IntN.{pos, natAbs}
-use Rattle.lines.specs.Schema.{Line, Row}
-use Rattle.lines.specs.Reader.{Sheet, Rule, Part, one, many, countLine, Read, stopped, got, Reader, andThen, return, readLine, filled, readRows, readPart, readParts}
-use Rattle.entries.specs.declared.Place.{Place}
-use Rattle.entries.specs.Place.{good, Fair, After}
+use Rattle.document.specs.Schema.{Line, Row}
+use Rattle.document.specs.Reader.{Sheet, Rule, Part, one, many, countLine, Read, stopped, got, Reader, andThen, return, readLine, filled, readRows, readPart, readParts}
+use Rattle.due.specs.declared.Place.{Place}
+use Rattle.due.specs.Place.{good, Fair, After}
 use Rattle.tiers.specs.Filling.{With}
 use Rattle.records.specs.Read.{CountAfter}
-use Rattle.entries.proofs.Places.{after-bind, after-return, after-weaker}
+use Rattle.due.proofs.Places.{after-bind, after-return, after-weaker}
 
 -- a step, and then what is itself two steps
 regroup : {A B C : Type 0} (r : Read A) (f : A → Reader C) (g : A → Reader B) (h : B → Reader C)

@@ -15,29 +15,29 @@ use Rattle.sheet.specs.declared.Reading.{Reading}
 use Rattle.sheet.specs.Firing.{Section, Wall}
 use Rattle.sheet.specs.Shown.{before, cell, reading, laid, unread}
 use Rattle.text.specs.Bytes.{bytes}
-use Rattle.lines.specs.Schema.{Row}
-use Rattle.lines.specs.Tests.{when, wall-rule}
-use Rattle.lines.specs.Document01.{wallLine}
-use Rattle.lines.specs.Limits.{In}
-use Rattle.lines.specs.Quantities.{stageNumber}
-use Rattle.lines.specs.Reader.{Sheet, Reader, filled, readLine, readRows}
-use Rattle.lines.specs.Rows.{stageOf, sectionOf, wallOf, stagesIn, sectionsIn, wallsIn}
-use Rattle.lines.specs.Rules.{Every}
-use Rattle.lines.proofs.Cases.{clash}
+use Rattle.document.specs.Schema.{Row}
+use Rattle.document.specs.Tests.{when, wall-rule}
+use Rattle.document.specs.Document01.{wallLine}
+use Rattle.document.specs.Limits.{In}
+use Rattle.document.specs.Quantities.{stageNumber}
+use Rattle.document.specs.Reader.{Sheet, Reader, filled, readLine, readRows}
+use Rattle.document.specs.Rows.{stageOf, sectionOf, wallOf, stagesIn, sectionsIn, wallsIn}
+use Rattle.document.specs.Rules.{Every}
+use Rattle.document.proofs.Cases.{clash}
 use Rattle.walls.specs.declared.Ruling.{Ruling}
 use Rattle.walls.specs.Walls.{rulingOf, readAt}
 use Rattle.walls.proofs.Document.{wall-rule-is}
 use Rattle.walls.proofs.Readings.{Placed, laid-more, placed-more}
 use Rattle.walls.proofs.Rulings.{said}
-use Rattle.entries.specs.declared.Place.{Place}
+use Rattle.due.specs.declared.Place.{Place}
 use Rattle.tiers.specs.declared.surface.WallLine.{WallLine}
 use Rattle.amounts.specs.declared.Wall.{Wall as Wallˢ}
-use Rattle.entries.specs.Place.{good, refusedAt, Fair, After}
+use Rattle.due.specs.Place.{good, refusedAt, Fair, After}
 use Rattle.tiers.specs.Surface.{lacks, WallAfter, WallsShown, settled}
 use Rattle.amounts.specs.Taking.{wall}
 use Rattle.tiers.proofs.Above.{rows-here, rows-other}
-use Rattle.entries.proofs.Lines.{Kept, ruled-after, not-good, good-test}
-use Rattle.entries.proofs.Places.{not-both, refused-bad, after-weaker, after-refused}
+use Rattle.due.proofs.Lines.{Kept, ruled-after, not-good, good-test}
+use Rattle.due.proofs.Places.{not-both, refused-bad, after-weaker, after-refused}
 use Rattle.tiers.proofs.Sequence.{block-more}
 
 -- where no rule is broken the section is listed

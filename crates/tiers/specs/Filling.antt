@@ -3,8 +3,8 @@ use Prim.Native.Nat.{ℕ, _-_}
 use mathlib.Core.Path.{_≡_}
 use mathlib.Core.List.{List, _++_, map}
 use lib.ListN.{length, take, drop, replicate}
-use Rattle.lines.specs.Schema.{Line, Row}
-use Rattle.lines.specs.Reader.{Sheet, filled}
+use Rattle.document.specs.Schema.{Line, Row}
+use Rattle.document.specs.Reader.{Sheet, filled}
 
 pub record Filled {A B : Type 0} (view : A → B) (of : Row → B) (blank : A) (most k : ℕ) (lines : List A) (rows : List Row) : Type 0 where
   pub count : length rows ≡ k

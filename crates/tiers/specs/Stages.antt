@@ -4,14 +4,14 @@ use mathlib.Core.List.{List, []}
 use lib.IntN.{natAbs}
 use Rattle.sheet.specs.declared.Stage.{Stage}
 use Rattle.sheet.specs.Shown.{stage}
-use Rattle.lines.specs.Tests.{free}
-use Rattle.lines.specs.Document01.{stageLine}
-use Rattle.lines.specs.Reader.{Sheet, readRows}
-use Rattle.lines.specs.Rows.{stageOf}
-use Rattle.lines.specs.Rules.{Every}
-use Rattle.entries.specs.declared.Place.{Place}
+use Rattle.document.specs.Tests.{free}
+use Rattle.document.specs.Document01.{stageLine}
+use Rattle.document.specs.Reader.{Sheet, readRows}
+use Rattle.document.specs.Rows.{stageOf}
+use Rattle.document.specs.Rules.{Every}
+use Rattle.due.specs.declared.Place.{Place}
 use Rattle.tiers.specs.declared.rows.StageRows.{StageRows}
-use Rattle.entries.specs.Place.{After}
+use Rattle.due.specs.Place.{After}
 use Rattle.tiers.specs.Filling.{Filled}
 use Rattle.blank.specs.Blank.{blankStage}
 

@@ -13,20 +13,20 @@ use Rattle.sheet.specs.declared.Section.{Section as Sectionˢ}
 use Rattle.sheet.specs.Firing.{Section}
 use Rattle.sheet.specs.Shown.{section, before, laid, unread}
 use Rattle.text.specs.Bytes.{bytes}
-use Rattle.lines.specs.Schema.{Row}
-use Rattle.lines.specs.Reader.{Sheet, readLine, readRows, sameKey}
-use Rattle.lines.specs.Tests.{when, section-rule, wall-rule}
-use Rattle.lines.specs.Document01.{sectionLine, wallLine}
-use Rattle.lines.specs.Rules.{Every}
-use Rattle.lines.specs.Rows.{sectionOf, wallOf, stagesIn, sectionsIn}
+use Rattle.document.specs.Schema.{Row}
+use Rattle.document.specs.Reader.{Sheet, readLine, readRows, sameKey}
+use Rattle.document.specs.Tests.{when, section-rule, wall-rule}
+use Rattle.document.specs.Document01.{sectionLine, wallLine}
+use Rattle.document.specs.Rules.{Every}
+use Rattle.document.specs.Rows.{sectionOf, wallOf, stagesIn, sectionsIn}
 use Rattle.walls.specs.declared.Ruling.{Ruling}
 use Rattle.walls.specs.Walls.{numbers}
 use Rattle.walls.proofs.Sections.{Distinct}
 use Rattle.walls.proofs.Readings.{Placed}
-use Rattle.entries.specs.declared.Place.{Place}
+use Rattle.due.specs.declared.Place.{Place}
 use Rattle.records.specs.declared.blocks.SectionLine.{SectionLine}
 use Rattle.tiers.specs.declared.surface.WallLine.{WallLine}
-use Rattle.entries.specs.Place.{After, ruled}
+use Rattle.due.specs.Place.{After, ruled}
 use Rattle.amounts.specs.Taking.{wall}
 use Rattle.tiers.specs.Filling.{Filled}
 use Rattle.blank.specs.Blank.{blankSection}

@@ -9,13 +9,13 @@ use lib.Signed.{ltZ}
 use Rattle.sheet.specs.declared.Reading.{Reading}
 use Rattle.sheet.specs.declared.Refusal.the-variants.{SectionTwice}
 use Rattle.sheet.specs.Shown.{before, cell, unread, laid}
-use Rattle.lines.specs.Schema.{Row}
-use Rattle.lines.specs.Reader.{Sheet}
-use Rattle.lines.specs.Quantities.{stageNumber}
-use Rattle.lines.specs.Limits.{In}
-use Rattle.lines.specs.Rules.{Every}
-use Rattle.lines.specs.Tests.{all, when, section-rule, wall-rule, isRead, counted}
-use Rattle.lines.specs.Rows.{sectionOf, editionIn, stagesIn, sectionsIn, wallAs, wallsIn}
+use Rattle.document.specs.Schema.{Row}
+use Rattle.document.specs.Reader.{Sheet}
+use Rattle.document.specs.Quantities.{stageNumber}
+use Rattle.document.specs.Limits.{In}
+use Rattle.document.specs.Rules.{Every}
+use Rattle.document.specs.Tests.{all, when, section-rule, wall-rule, isRead, counted}
+use Rattle.document.specs.Rows.{sectionOf, editionIn, stagesIn, sectionsIn, wallAs, wallsIn}
 use Rattle.walls.specs.Walls.{rulingOf, readAt, allRead}
 use Rattle.walls.proofs.Sections.{Distinct, before-is}
 use Rattle.walls.proofs.Readings.{Placed}

@@ -9,7 +9,7 @@ use lib.Dec.{eqb}
 use lib.ListN.{length, getD}
 use lib.IntN.{ℤ, pos}
 use borrow.Author.Tests.{eqb-true, eqb-false}
-use Rattle.lines.specs.Tests.{all, counted}
+use Rattle.document.specs.Tests.{all, counted}
 use Rattle.walls.specs.Walls.{every}
 
 -- One more number at which the test passes.

@@ -10,8 +10,8 @@ use lib.IntN.{pos}
 use Rattle.sheet.specs.declared.Reading.{Reading}
 use Rattle.sheet.specs.Firing.{Section, Wall}
 use Rattle.sheet.specs.Shown.{cell, unread, laid}
-use Rattle.lines.specs.Rules.{Every}
-use Rattle.lines.specs.Tests.{all, counted, isRead}
+use Rattle.document.specs.Rules.{Every}
+use Rattle.document.specs.Tests.{all, counted, isRead}
 use Rattle.walls.specs.Walls.{readAt, rowRead, allRead}
 use Rattle.walls.proofs.Sections.{Distinct, before-at}
 use Rattle.walls.proofs.Readings.{Placed, laid-read}

@@ -13,12 +13,12 @@ use borrow.Author.Tests.{eqb-true, eqb-false, ltb-true, ltb-false}
 use Rattle.sheet.specs.declared.Reading.{Reading}
 use Rattle.sheet.specs.Firing.{Section, Wall}
 use Rattle.sheet.specs.Shown.{same, before, cell, reading, unread, wasRead, laid}
-use Rattle.lines.specs.Quantities.{stageNumber}
-use Rattle.lines.specs.Limits.{In}
-use Rattle.lines.specs.Rules.{Every}
-use Rattle.lines.specs.Tests.{isRead}
+use Rattle.document.specs.Quantities.{stageNumber}
+use Rattle.document.specs.Limits.{In}
+use Rattle.document.specs.Rules.{Every}
+use Rattle.document.specs.Tests.{isRead}
 use Rattle.walls.specs.Walls.{readAt}
-use Rattle.lines.proofs.Rules.{same-self, same-is}
+use Rattle.document.proofs.Rules.{same-self, same-is}
 use Rattle.walls.proofs.Sections.{before-one}
 
 -- A cell is looked up among the 144, and beyond the last there is none.

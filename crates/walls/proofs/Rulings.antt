@@ -14,10 +14,10 @@ use Rattle.sheet.specs.declared.Refusal.{Refusal}
 use Rattle.sheet.specs.declared.Refusal.the-variants.{NoSuchWall, ReadTwice, Colder}
 use Rattle.sheet.specs.Firing.{Stage, Section, Wall}
 use Rattle.sheet.specs.Shown.{before, cell, unread, laid}
-use Rattle.lines.specs.Quantities.{stageNumber}
-use Rattle.lines.specs.Limits.{In}
-use Rattle.lines.specs.Rules.{Every}
-use Rattle.lines.specs.Tests.{when, _else_, isRead, wallFault}
+use Rattle.document.specs.Quantities.{stageNumber}
+use Rattle.document.specs.Limits.{In}
+use Rattle.document.specs.Rules.{Every}
+use Rattle.document.specs.Tests.{when, _else_, isRead, wallFault}
 use Rattle.walls.specs.declared.Ruling.{Ruling}
 use Rattle.walls.specs.Walls.{rulingOf, readAt}
 use Rattle.walls.proofs.Sections.{before-is}

@@ -4,7 +4,7 @@ use mathlib.Core.Bool.{Bool, true, false, _||_, and-comm, false≢true}
 use lib.IntN.{ℤ}
 use lib.Signed.{leZ}
 use Rattle.sheet.specs.Shown.{same}
-use Rattle.lines.proofs.Rules.{same-is}
+use Rattle.document.proofs.Rules.{same-is}
 
 pub same-false : (a b : ℤ) → ¬ (a ≡ b) → same a b ≡ false
 same-false a b apart = by (same a b) refl

@@ -13,8 +13,8 @@ use borrow.Author.Tests.{lt-ltb, eq-eqb, ne-eqb, eqb-true, eqb-false}
 use Rattle.sheet.specs.declared.Section.{Section as Sectionˢ}
 use Rattle.sheet.specs.Firing.{Section}
 use Rattle.sheet.specs.Shown.{section, same, before}
-use Rattle.lines.specs.Tests.{isListed}
-use Rattle.lines.proofs.Rules.{same-self, same-is}
+use Rattle.document.specs.Tests.{isListed}
+use Rattle.document.proofs.Rules.{same-self, same-is}
 use Rattle.walls.specs.Walls.{numbers, placeOf}
 use Rattle.walls.proofs.Same.{same-false, same-swap, neither}
 

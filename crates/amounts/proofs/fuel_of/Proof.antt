@@ -1,6 +1,6 @@
 -- Two constructors in a row. Assumes nothing.
 use borrow.Author.Needs.{needs}
-use Rattle.lines.specs.Rows.{fuelOf}
+use Rattle.document.specs.Rows.{fuelOf}
 use Rattle.amounts.proofs.Chain.{_&_, done, taken-as}
 use Rattle.amounts.proofs.fuel_of.Statement.{statement}
 use Rattle.amounts.proofs.fuel_of.Tie as tie

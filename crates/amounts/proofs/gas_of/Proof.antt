@@ -14,11 +14,11 @@ use Rattle.limits.specs.Checked.{Measured}
 use Rattle.limits.proofs.Laws.{within}
 use Rattle.limits.specs.declared.Number.{Number}
 use Rattle.quantity.specs.declared.gas.Share.{Share}
-use Rattle.lines.specs.Quantities.{share}
-use Rattle.lines.specs.Rules.{Every}
+use Rattle.document.specs.Quantities.{share}
+use Rattle.document.specs.Rules.{Every}
 use Rattle.amounts.specs.Taking.{from, shares}
 use Rattle.amounts.proofs.Chain.{Chain, done, taken, chain-snoc, from-end, replicate-end}
-use Rattle.lines.proofs.Lists.{every-replicate, every-set}
+use Rattle.document.proofs.Lists.{every-replicate, every-set}
 use Rattle.amounts.proofs.gas_of.Statement.{statement}
 use Rattle.amounts.proofs.gas_of.Tie as tie
 

@@ -1,6 +1,6 @@
 -- Five constructors in a row. Assumes nothing.
 use borrow.Author.Needs.{needs}
-use Rattle.lines.specs.Rows.{partOf}
+use Rattle.document.specs.Rows.{partOf}
 use Rattle.amounts.proofs.Chain.{_&_, done, taken-as}
 use Rattle.amounts.proofs.part_of.Statement.{statement}
 use Rattle.amounts.proofs.part_of.Tie as tie

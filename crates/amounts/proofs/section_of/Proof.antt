@@ -1,6 +1,6 @@
 -- Three constructors in a row. Assumes nothing.
 use borrow.Author.Needs.{needs}
-use Rattle.lines.specs.Rows.{sectionOf}
+use Rattle.document.specs.Rows.{sectionOf}
 use Rattle.amounts.proofs.Chain.{_&_, done, taken-as}
 use Rattle.amounts.proofs.section_of.Statement.{statement}
 use Rattle.amounts.proofs.section_of.Tie as tie

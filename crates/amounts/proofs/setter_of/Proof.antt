@@ -1,6 +1,6 @@
 -- Four constructors in a row. Assumes nothing.
 use borrow.Author.Needs.{needs}
-use Rattle.lines.specs.Rows.{setterOf}
+use Rattle.document.specs.Rows.{setterOf}
 use Rattle.amounts.proofs.Chain.{_&_, done, taken-as}
 use Rattle.amounts.proofs.setter_of.Statement.{statement}
 use Rattle.amounts.proofs.setter_of.Tie as tie

@@ -4,7 +4,7 @@ use lib.Signed.{leZ-yes}
 use Rattle.arith.proofs.Machine.{range, arg, bound}
 use Rattle.limits.proofs.Laws.{within}
 use borrow.Author.Needs.{needs}
-use Rattle.lines.specs.Rows.{stageOf}
+use Rattle.document.specs.Rows.{stageOf}
 use Rattle.amounts.proofs.Chain.{_&_, done, taken-as}
 use Rattle.amounts.proofs.stage_of.Statement.{statement}
 use Rattle.amounts.proofs.stage_of.Tie as tie

@@ -7,7 +7,7 @@ use borrow.Author.Needs.{needs}
 use borrow.Author.Tests.{le-leb, lt-leb}
 use lib.IntN.{pos}
 use Rattle.sheet.specs.Shown.{same}
-use Rattle.lines.specs.Tests.{alike}
+use Rattle.document.specs.Tests.{alike}
 use Rattle.amounts.proofs.unsuited.Statement.{statement}
 use Rattle.amounts.proofs.unsuited.Tie as tie
 

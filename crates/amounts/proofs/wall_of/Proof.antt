@@ -1,7 +1,7 @@
 -- Four constructors in a row. Assumes nothing.
 use borrow.Author.Needs.{needs}
 use Rattle.limits.proofs.Laws.{count-within}
-use Rattle.lines.specs.Rows.{wallOf}
+use Rattle.document.specs.Rows.{wallOf}
 use Rattle.amounts.proofs.Chain.{_&_, done, taken-as}
 use Rattle.amounts.proofs.wall_of.Statement.{statement}
 use Rattle.amounts.proofs.wall_of.Tie as tie

@@ -1,6 +1,6 @@
 -- Five constructors in a row. Assumes nothing.
 use borrow.Author.Needs.{needs}
-use Rattle.lines.specs.Rows.{wareOf}
+use Rattle.document.specs.Rows.{wareOf}
 use Rattle.amounts.proofs.Chain.{_&_, done, taken-as}
 use Rattle.amounts.proofs.ware_of.Statement.{statement}
 use Rattle.amounts.proofs.ware_of.Tie as tie

@@ -1,6 +1,6 @@
 -- Three constructors in a row. Assumes nothing.
 use borrow.Author.Needs.{needs}
-use Rattle.lines.specs.Rows.{waterOf}
+use Rattle.document.specs.Rows.{waterOf}
 use Rattle.amounts.proofs.Chain.{_&_, done, taken-as}
 use Rattle.amounts.proofs.water_of.Statement.{statement}
 use Rattle.amounts.proofs.water_of.Tie as tie

@@ -2,10 +2,10 @@
 use mathlib.Core.Path.{sym, _∙_, subst}
 use borrow.Author.Needs.{needs}
 use Rattle.sheet.specs.Firing.{Gas, Stage}
-use Rattle.lines.specs.Quantities.{gasTotal}
-use Rattle.lines.specs.Limits.{In}
+use Rattle.document.specs.Quantities.{gasTotal}
+use Rattle.document.specs.Limits.{In}
 use Rattle.formulas.specs.Formulas.{totalGas}
-use Rattle.fuel.specs.Mixture.{Warmed}
+use Rattle.burning.specs.Mixture.{Warmed}
 use Rattle.formulas.specs.Steps.{stagesOf}
 use Rattle.heat.proofs.Kept.{own, field}
 use Rattle.formulas.proofs.Sums.{sum-of}

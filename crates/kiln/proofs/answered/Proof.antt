@@ -8,18 +8,18 @@ use lib.ListN.{length}
 use Rattle.sheet.specs.declared.Sheet.{Sheet}
 use Rattle.sheet.specs.declared.Refusal.{Refusal}
 use Rattle.sheet.specs.Refusals.{number}
-use Rattle.lines.specs.Reader.{Refused, readOf}
-use Rattle.lines.specs.Editions.{document}
-use Rattle.lines.specs.Rows.{firingOf}
-use Rattle.lines.proofs.Numbering.{refuses}
+use Rattle.document.specs.Reader.{Refused, readOf}
+use Rattle.document.specs.Editions.{document}
+use Rattle.document.specs.Rows.{firingOf}
+use Rattle.document.proofs.Numbering.{refuses}
 use Rattle.formulas.specs.Items.{shuttle}
 use Rattle.formulas.specs.Report.{keys, linesText, report}
 use Rattle.heat.specs.Balance.{Kept}
 use Rattle.heat.proofs.Kept.{field}
 use Rattle.report.specs.Figures.{Found}
 use Rattle.report.proofs.Room.{each-fits}
-use Rattle.entries.specs.Place.{reason}
-use Rattle.entries.proofs.Places.{is-good, is-bad}
+use Rattle.due.specs.Place.{reason}
+use Rattle.due.proofs.Places.{is-good, is-bad}
 use Rattle.reader.proofs.Answering.{Firm, firm-judged, firm-limits, refused-judged}
 use Rattle.answer.specs.Answer.{refusedAs, fitted, placed}
 use Rattle.kiln.proofs.Answering.{answer-good, buffer-good, short-good, answer-bad, buffer-bad, short-bad}

@@ -1,6 +1,6 @@
 -- The answer by the place of the judgement. Assumes nothing.
 use borrow.Author.Needs.{needs}
-use Rattle.entries.proofs.Places.{is-good, is-bad}
+use Rattle.due.proofs.Places.{is-good, is-bad}
 use Rattle.reader.proofs.Answering.{answer-good, answer-refused}
 use Rattle.reader.proofs.read.Statement.{statement}
 use Rattle.reader.proofs.read.Tie as tie

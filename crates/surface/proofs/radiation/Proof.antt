@@ -6,7 +6,7 @@ use borrow.Author.Needs.{needs}
 use lib.IntN.{ℤ, pos}
 use Rattle.arith.proofs.Machine.{Known, Mx, raw, num, _⟨+⟩_, _⟨-⟩_, _⟨*⟩_}
 use Rattle.formulas.specs.Formulas.{radiation}
-use Rattle.lines.specs.Quantities.{surface}
+use Rattle.document.specs.Quantities.{surface}
 use Rattle.formulas.specs.Figures.{Within}
 use Rattle.formulas.specs.Sizes.{greatest}
 use Rattle.surface.specs.Cells.{FourthFits, HotIn}

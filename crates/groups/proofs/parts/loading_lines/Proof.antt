@@ -1,7 +1,7 @@
 -- The setters, then the parts. Assumes nothing.
 use mathlib.Core.List.{[]}
 use borrow.Author.Needs.{needs}
-use Rattle.lines.specs.Document01.{setterLine, partLine, setters, parts}
+use Rattle.document.specs.Document01.{setterLine, partLine, setters, parts}
 use Rattle.groups.proofs.Said.{block-read, _then_}
 use Rattle.groups.proofs.parts.loading_lines.Statement.{statement}
 use Rattle.groups.proofs.parts.loading_lines.Tie as tie

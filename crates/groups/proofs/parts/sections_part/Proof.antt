@@ -1,8 +1,8 @@
 -- The count line, then so many lines. Assumes nothing.
 use borrow.Author.Needs.{needs}
 use Rattle.text.specs.Bytes.{bytes}
-use Rattle.lines.specs.Tests.{section-rule}
-use Rattle.lines.specs.Document01.{sectionLine}
+use Rattle.document.specs.Tests.{section-rule}
+use Rattle.document.specs.Document01.{sectionLine}
 use Rattle.tiers.proofs.Sequence.{block-after}
 use Rattle.groups.proofs.parts.sections_part.Statement.{statement}
 use Rattle.groups.proofs.parts.sections_part.Tie as tie

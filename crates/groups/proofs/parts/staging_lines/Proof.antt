@@ -1,8 +1,8 @@
 -- The count line, then so many lines. Assumes nothing.
 use borrow.Author.Needs.{needs}
 use Rattle.text.specs.Bytes.{bytes}
-use Rattle.lines.specs.Tests.{free}
-use Rattle.lines.specs.Document01.{stageLine, stages}
+use Rattle.document.specs.Tests.{free}
+use Rattle.document.specs.Document01.{stageLine, stages}
 use Rattle.tiers.proofs.Sequence.{block-after}
 use Rattle.groups.proofs.Said.{block-read}
 use Rattle.groups.proofs.parts.staging_lines.Statement.{statement}

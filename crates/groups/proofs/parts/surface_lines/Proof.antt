@@ -3,10 +3,10 @@ use mathlib.Core.Path.{refl, sym, ap, _∙_}
 use mathlib.Core.List.{List, [], _∷_, _++_, map}
 use borrow.Author.Needs.{needs}
 use Rattle.text.specs.Bytes.{bytes}
-use Rattle.lines.specs.Schema.{Row}
-use Rattle.lines.specs.Reader.{filled}
-use Rattle.lines.specs.Rows.{sectionOf}
-use Rattle.lines.specs.Document01.{sectionLine, wallLine, sections, walls}
+use Rattle.document.specs.Schema.{Row}
+use Rattle.document.specs.Reader.{filled}
+use Rattle.document.specs.Rows.{sectionOf}
+use Rattle.document.specs.Document01.{sectionLine, wallLine, sections, walls}
 use Rattle.tiers.specs.Surface.{WallsShown}
 use Rattle.tiers.proofs.Above.{rows-here}
 use Rattle.tiers.proofs.Sequence.{pass-on, parts-done}

@@ -1,7 +1,7 @@
 -- One line after the other, whatever stands above them. Assumes nothing.
 use borrow.Author.Needs.{needs}
-use Rattle.lines.specs.Tests.{free, material-rule}
-use Rattle.lines.specs.Document01.{airLine, wareLine, waterLine, clayLine}
+use Rattle.document.specs.Tests.{free, material-rule}
+use Rattle.document.specs.Document01.{airLine, wareLine, waterLine, clayLine}
 use Rattle.groups.proofs.Said.{line-then, none-read}
 use Rattle.groups.proofs.tops.drying_lines.Statement.{statement}
 use Rattle.groups.proofs.tops.drying_lines.Tie as tie

@@ -1,7 +1,7 @@
 -- One line after the other, whatever stands above them. Assumes nothing.
 use borrow.Author.Needs.{needs}
-use Rattle.lines.specs.Tests.{free}
-use Rattle.lines.specs.Document01.{firingLine, productLine, ambientLine}
+use Rattle.document.specs.Tests.{free}
+use Rattle.document.specs.Document01.{firingLine, productLine, ambientLine}
 use Rattle.groups.proofs.Said.{line-then, none-read}
 use Rattle.groups.proofs.tops.heading_lines.Statement.{statement}
 use Rattle.groups.proofs.tops.heading_lines.Tie as tie

@@ -7,8 +7,8 @@ use lib.ListN.{length, take}
 use lib.Seq.{length-take-le}
 use Prim.Native.Nat.{ℕ}
 use Rattle.pen.specs.Writing.{Written}
-use Rattle.lines.specs.Rows.{firingOf}
-use Rattle.lines.proofs.Numbering.{refuses}
+use Rattle.document.specs.Rows.{firingOf}
+use Rattle.document.proofs.Numbering.{refuses}
 use Rattle.formulas.specs.Items.{shuttle}
 use Rattle.formulas.specs.Report.{heatKeys, linesText, joulesText}
 use Rattle.heat.specs.Balance.{Kept}

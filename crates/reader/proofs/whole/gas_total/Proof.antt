@@ -11,9 +11,9 @@ use Rattle.arith.proofs.Order.{abs-add}
 use Rattle.arith.proofs.Machine.{Known, small, arg, from, _⟨+⟩_, fits, result}
 use Rattle.sheet.specs.declared.Stage.{Stage}
 use Rattle.blank.specs.Blank.{blankStage}
-use Rattle.lines.specs.Tests.{sumOf}
+use Rattle.document.specs.Tests.{sumOf}
 use Rattle.tiers.specs.Stages.{SmallGas}
-use Rattle.lines.proofs.Lists.{every-at}
+use Rattle.document.proofs.Lists.{every-at}
 use Rattle.reader.proofs.Totals.{gas-more}
 use Rattle.reader.proofs.whole.gas_total.Statement.{statement}
 use Rattle.reader.proofs.whole.gas_total.Tie as tie

@@ -9,12 +9,12 @@ use lib.IntN.{ℤ, pos}
 use Rattle.limits.specs.Checked.{Measured, inRange, firstFault}
 use Rattle.sheet.specs.declared.Sheet.{Sheet}
 use Rattle.sheet.specs.declared.Refusal.the-variants.{Surplus, Missing, GasTotal}
-use Rattle.lines.specs.Schema.{within}
-use Rattle.lines.specs.Quantities.{gasTotal}
+use Rattle.document.specs.Schema.{within}
+use Rattle.document.specs.Quantities.{gasTotal}
 use Rattle.walls.specs.Walls.{allRead}
-use Rattle.entries.specs.declared.Place.{Place}
-use Rattle.entries.specs.Place.{good, refusedAt}
-use Rattle.entries.proofs.Places.{is-good, is-bad}
+use Rattle.due.specs.declared.Place.{Place}
+use Rattle.due.specs.Place.{good, refusedAt}
+use Rattle.due.proofs.Places.{is-good, is-bad}
 use Rattle.reader.specs.Whole.{gasOf, wholeAs, verdictAs}
 use Rattle.reader.proofs.whole.verdict.Statement.{statement}
 use Rattle.reader.proofs.whole.verdict.Tie as tie

@@ -2,10 +2,10 @@
 use mathlib.Core.Path.{_≡_}
 use borrow.Author.Needs.{needs}
 use Rattle.sheet.specs.Shown.{section}
-use Rattle.lines.specs.Schema.{plain}
-use Rattle.lines.specs.Document01.{sectionLine}
-use Rattle.lines.specs.Rows.{sectionOf}
-use Rattle.entries.proofs.Lines.{line-after}
+use Rattle.document.specs.Schema.{plain}
+use Rattle.document.specs.Document01.{sectionLine}
+use Rattle.document.specs.Rows.{sectionOf}
+use Rattle.due.proofs.Lines.{line-after}
 use Rattle.records.proofs.blocks.section_line.Statement.{statement}
 use Rattle.records.proofs.blocks.section_line.Tie as tie
 

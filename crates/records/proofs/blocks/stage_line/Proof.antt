@@ -2,10 +2,10 @@
 use mathlib.Core.Path.{_≡_}
 use borrow.Author.Needs.{needs}
 use Rattle.sheet.specs.Shown.{stage}
-use Rattle.lines.specs.Schema.{plain}
-use Rattle.lines.specs.Document01.{stageLine}
-use Rattle.lines.specs.Rows.{stageOf}
-use Rattle.entries.proofs.Lines.{line-after}
+use Rattle.document.specs.Schema.{plain}
+use Rattle.document.specs.Document01.{stageLine}
+use Rattle.document.specs.Rows.{stageOf}
+use Rattle.due.proofs.Lines.{line-after}
 use Rattle.records.proofs.blocks.stage_line.Statement.{statement}
 use Rattle.records.proofs.blocks.stage_line.Tie as tie
 

@@ -1,7 +1,7 @@
 -- The form and the one quantity are the line that is due. Assumes nothing.
 use borrow.Author.Needs.{needs}
 use lib.IntN.{pos}
-use Rattle.lines.specs.Document01.{endLine}
+use Rattle.document.specs.Document01.{endLine}
 use Rattle.amounts.proofs.Chain.{_&_, done}
 use Rattle.records.proofs.Quantities.{alone}
 use Rattle.records.proofs.head.closing_line.Statement.{statement}

@@ -1,6 +1,6 @@
 -- The form and the one quantity are the line that is due. Assumes nothing.
 use borrow.Author.Needs.{needs}
-use Rattle.lines.specs.Document01.{firingLine}
+use Rattle.document.specs.Document01.{firingLine}
 use Rattle.amounts.proofs.Chain.{_&_, done}
 use Rattle.records.proofs.Quantities.{alone}
 use Rattle.records.proofs.head.firing_line.Statement.{statement}

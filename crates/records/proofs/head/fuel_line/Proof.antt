@@ -2,10 +2,10 @@
 use mathlib.Core.Path.{_≡_}
 use borrow.Author.Needs.{needs}
 use Rattle.sheet.specs.Shown.{fuel}
-use Rattle.lines.specs.Schema.{plain}
-use Rattle.lines.specs.Document01.{fuelLine}
-use Rattle.lines.specs.Rows.{fuelOf}
-use Rattle.entries.proofs.Lines.{line-after}
+use Rattle.document.specs.Schema.{plain}
+use Rattle.document.specs.Document01.{fuelLine}
+use Rattle.document.specs.Rows.{fuelOf}
+use Rattle.due.proofs.Lines.{line-after}
 use Rattle.records.proofs.head.fuel_line.Statement.{statement}
 use Rattle.records.proofs.head.fuel_line.Tie as tie
 

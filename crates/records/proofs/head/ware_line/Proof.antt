@@ -6,12 +6,12 @@ use borrow.Author.Needs.{needs}
 use Rattle.sheet.specs.declared.Refusal.the-variants.{Material}
 use Rattle.sheet.specs.Firing.{Ware}
 use Rattle.sheet.specs.Shown.{ware}
-use Rattle.lines.specs.Schema.{plain}
-use Rattle.lines.specs.Tests.{when, material-rule}
-use Rattle.lines.specs.Document01.{wareLine}
-use Rattle.lines.specs.Rows.{wareOf}
+use Rattle.document.specs.Schema.{plain}
+use Rattle.document.specs.Tests.{when, material-rule}
+use Rattle.document.specs.Document01.{wareLine}
+use Rattle.document.specs.Rows.{wareOf}
 use Rattle.amounts.specs.Taking.{unsuited}
-use Rattle.entries.proofs.Lines.{ruled-line}
+use Rattle.due.proofs.Lines.{ruled-line}
 use Rattle.records.proofs.head.ware_line.Statement.{statement}
 use Rattle.records.proofs.head.ware_line.Tie as tie
 

@@ -9,10 +9,10 @@ use lib.ListN.{length, getD}
 use Rattle.sheet.specs.declared.Part.{Part as Partˢ}
 use Rattle.sheet.specs.Firing.{Part}
 use Rattle.sheet.specs.Shown.{part}
-use Rattle.lines.specs.Limits.{PartIn}
+use Rattle.document.specs.Limits.{PartIn}
 use Rattle.formulas.specs.Rounding.{paper}
 use Rattle.formulas.specs.Formulas.{joule, sum, sensible, q8, x10}
-use Rattle.lines.specs.Quantities.{partsMost}
+use Rattle.document.specs.Quantities.{partsMost}
 use Rattle.formulas.specs.Sizes.{sensibleMost}
 use Rattle.formulas.proofs.Sizes.{sized}
 use Rattle.formulas.proofs.Sums.{unmapped, first, each, Running, none, more-fits, summed, blocked}

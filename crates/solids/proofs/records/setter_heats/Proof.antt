@@ -9,10 +9,10 @@ use lib.ListN.{length, getD}
 use Rattle.sheet.specs.declared.Setter.{Setter as Setterˢ}
 use Rattle.sheet.specs.Firing.{Setter}
 use Rattle.sheet.specs.Shown.{setter}
-use Rattle.lines.specs.Limits.{SetterIn}
+use Rattle.document.specs.Limits.{SetterIn}
 use Rattle.formulas.specs.Rounding.{paper}
 use Rattle.formulas.specs.Formulas.{joule, sum, sensible, q3, x5}
-use Rattle.lines.specs.Quantities.{settersMost}
+use Rattle.document.specs.Quantities.{settersMost}
 use Rattle.formulas.specs.Sizes.{sensibleMost}
 use Rattle.formulas.proofs.Sizes.{sized}
 use Rattle.formulas.proofs.Sums.{unmapped, first, each, Running, none, more-fits, summed, blocked}

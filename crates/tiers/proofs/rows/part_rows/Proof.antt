@@ -4,9 +4,9 @@ use mathlib.Core.Path.{_≡_}
 use native.Mathlib.Omega.{arith}
 use borrow.Author.Needs.{needs}
 use Rattle.sheet.specs.Shown.{part}
-use Rattle.lines.specs.Tests.{material-rule}
-use Rattle.lines.specs.Document01.{partLine}
-use Rattle.lines.specs.Rows.{partOf}
+use Rattle.document.specs.Tests.{material-rule}
+use Rattle.document.specs.Document01.{partLine}
+use Rattle.document.specs.Rows.{partOf}
 use Rattle.blank.specs.Blank.{blankPart}
 use Rattle.tiers.proofs.Fills.{Filling, filling-none, filling-next}
 use Rattle.tiers.proofs.rows.part_rows.Statement.{statement}

@@ -4,9 +4,9 @@ use mathlib.Core.Path.{_≡_}
 use native.Mathlib.Omega.{arith}
 use borrow.Author.Needs.{needs}
 use Rattle.sheet.specs.Shown.{setter}
-use Rattle.lines.specs.Tests.{material-rule}
-use Rattle.lines.specs.Document01.{setterLine}
-use Rattle.lines.specs.Rows.{setterOf}
+use Rattle.document.specs.Tests.{material-rule}
+use Rattle.document.specs.Document01.{setterLine}
+use Rattle.document.specs.Rows.{setterOf}
 use Rattle.blank.specs.Blank.{blankSetter}
 use Rattle.tiers.proofs.Fills.{Filling, filling-none, filling-next}
 use Rattle.tiers.proofs.rows.setter_rows.Statement.{statement}

@@ -4,11 +4,11 @@ use mathlib.Core.Path.{_≡_}
 use native.Mathlib.Omega.{arith}
 use borrow.Author.Needs.{needs}
 use Rattle.sheet.specs.Shown.{stage}
-use Rattle.lines.specs.Tests.{free}
-use Rattle.lines.specs.Document01.{stageLine}
-use Rattle.lines.specs.Rows.{stageOf}
-use Rattle.lines.specs.Rules.{Every}
-use Rattle.lines.proofs.Lists.{every-replicate, every-set}
+use Rattle.document.specs.Tests.{free}
+use Rattle.document.specs.Document01.{stageLine}
+use Rattle.document.specs.Rows.{stageOf}
+use Rattle.document.specs.Rules.{Every}
+use Rattle.document.proofs.Lists.{every-replicate, every-set}
 use Rattle.blank.specs.Blank.{blankStage}
 use Rattle.tiers.specs.Stages.{SmallGas}
 use Rattle.tiers.proofs.Fills.{Filling, filling-none, filling-next}

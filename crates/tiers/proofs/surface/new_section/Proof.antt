@@ -10,12 +10,12 @@ use Rattle.sheet.specs.declared.Refusal.the-variants.{SectionTwice}
 use Rattle.sheet.specs.declared.Section.{Section as Sectionˢ}
 use Rattle.sheet.specs.Firing.{Section}
 use Rattle.sheet.specs.Shown.{section, before}
-use Rattle.lines.specs.Tests.{when}
-use Rattle.lines.specs.Document01.{sectionLine}
-use Rattle.lines.specs.Rows.{sectionOf}
+use Rattle.document.specs.Tests.{when}
+use Rattle.document.specs.Document01.{sectionLine}
+use Rattle.document.specs.Rows.{sectionOf}
 use Rattle.walls.proofs.Sections.{numbers-length, place-among}
 use Rattle.tiers.specs.Surface.{twice}
-use Rattle.entries.proofs.Lines.{ruled-after}
+use Rattle.due.proofs.Lines.{ruled-after}
 use Rattle.tiers.proofs.surface.new_section.Statement.{statement}
 use Rattle.tiers.proofs.surface.new_section.Tie as tie
 

@@ -15,22 +15,22 @@ use Rattle.sheet.specs.declared.Section.{Section as Sectionˢ}
 use Rattle.sheet.specs.Firing.{Section}
 use Rattle.sheet.specs.Shown.{section, before}
 use Rattle.text.specs.Bytes.{bytes}
-use Rattle.lines.specs.Schema.{Row}
-use Rattle.lines.specs.Tests.{when, section-rule, isListed}
-use Rattle.lines.specs.Document01.{sectionLine}
-use Rattle.lines.specs.Reader.{Sheet, filled, readLine, readRows}
-use Rattle.lines.specs.Rows.{sectionOf}
-use Rattle.lines.proofs.Cases.{clash}
+use Rattle.document.specs.Schema.{Row}
+use Rattle.document.specs.Tests.{when, section-rule, isListed}
+use Rattle.document.specs.Document01.{sectionLine}
+use Rattle.document.specs.Reader.{Sheet, filled, readLine, readRows}
+use Rattle.document.specs.Rows.{sectionOf}
+use Rattle.document.proofs.Cases.{clash}
 use Rattle.walls.proofs.Document.{section-rule-is}
 use Rattle.walls.specs.Walls.{numbers}
 use Rattle.walls.proofs.Sections.{before-is, distinct-none, distinct-more, numbers-length, numbers-set}
-use Rattle.entries.specs.declared.Place.{Place}
-use Rattle.entries.specs.Place.{Ready, After}
+use Rattle.due.specs.declared.Place.{Place}
+use Rattle.due.specs.Place.{Ready, After}
 use Rattle.blank.specs.Blank.{blankSection}
 use Rattle.tiers.specs.Surface.{twice, lacks, SectionsShown}
 use Rattle.tiers.proofs.Above.{funext, rows-here}
 use Rattle.tiers.proofs.Fills.{none-filled, one-filled}
-use Rattle.entries.proofs.Places.{after-weaker, ready-after}
+use Rattle.due.proofs.Places.{after-weaker, ready-after}
 use Rattle.tiers.proofs.Sequence.{block-start, block-more}
 use Rattle.tiers.proofs.surface.section_rows.Statement.{statement}
 use Rattle.tiers.proofs.surface.section_rows.Tie as tie

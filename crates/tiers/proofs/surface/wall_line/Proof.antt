@@ -1,11 +1,11 @@
 -- The form, the quantities and their first fault; the stage is within its limits by its constructor. Assumes nothing.
 use mathlib.Core.Path.{_≡_}
 use borrow.Author.Needs.{needs}
-use Rattle.lines.specs.Schema.{plain}
-use Rattle.lines.specs.Document01.{wallLine}
-use Rattle.lines.specs.Rows.{wallOf}
+use Rattle.document.specs.Schema.{plain}
+use Rattle.document.specs.Document01.{wallLine}
+use Rattle.document.specs.Rows.{wallOf}
 use Rattle.amounts.specs.Taking.{wall}
-use Rattle.entries.proofs.Lines.{line-after}
+use Rattle.due.proofs.Lines.{line-after}
 use Rattle.tiers.proofs.surface.wall_line.Statement.{statement}
 use Rattle.tiers.proofs.surface.wall_line.Tie as tie
 

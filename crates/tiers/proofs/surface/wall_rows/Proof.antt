@@ -14,18 +14,18 @@ use Rattle.sheet.specs.declared.Reading.{Reading}
 use Rattle.sheet.specs.declared.Section.{Section as Sectionˢ}
 use Rattle.sheet.specs.Firing.{Section}
 use Rattle.sheet.specs.Shown.{section, before, cell, reading, laid, unread}
-use Rattle.lines.specs.Tests.{wall-rule}
-use Rattle.lines.specs.Document01.{wallLine}
+use Rattle.document.specs.Tests.{wall-rule}
+use Rattle.document.specs.Document01.{wallLine}
 use Rattle.walls.specs.declared.Ruling.{Ruling}
 use Rattle.walls.specs.Walls.{numbers, rulingOf, readAt}
 use Rattle.walls.proofs.Sections.{numbers-length, place-among, place-most}
 use Rattle.walls.proofs.Readings.{read-is}
-use Rattle.entries.specs.declared.Place.{Place}
+use Rattle.due.specs.declared.Place.{Place}
 use Rattle.tiers.specs.declared.surface.WallLine.{WallLine}
-use Rattle.entries.specs.Place.{good, Ready}
+use Rattle.due.specs.Place.{good, Ready}
 use Rattle.tiers.specs.Surface.{WallsShown, WallsAfter, settled}
 use Rattle.amounts.specs.Taking.{wall}
-use Rattle.entries.proofs.Places.{not-both, is-good, is-bad}
+use Rattle.due.proofs.Places.{not-both, is-good, is-bad}
 use Rattle.tiers.proofs.Sequence.{block-start}
 use Rattle.tiers.proofs.Walls.{rule-on, good-unbroken, unbroken-place, settled-fair, next}
 use Rattle.tiers.proofs.surface.wall_rows.Statement.{statement}

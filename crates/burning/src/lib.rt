@@ -1,0 +1,86 @@
+// The fuel: what its gases come to, and its heat.
+pub mod mixture;
+
+ghost use mathlib.Core.Path.{_≡_};
+ghost use lib.IntN.{ℤ, pos, _+ℤ_, _*ℤ_};
+ghost use mir.Syntax.{w32};
+ghost use mir.Val.{SFits};
+ghost use Rattle.sheet.specs.Firing.{Firing};
+ghost use Rattle.document.specs.Rules.{Every};
+ghost use Rattle.document.specs.Limits.{StageIn};
+ghost use Rattle.formulas.specs.Rounding.{paper};
+ghost use Rattle.formulas.specs.Formulas.{joule, totalGas, q1, q2};
+ghost use Rattle.formulas.specs.Figures.{Figure};
+ghost use Rattle.formulas.specs.Sizes.{q1Most, q2Most};
+ghost use Rattle.formulas.specs.Steps.{ProductFits, stagesOf};
+ghost use Rattle.burning.specs.Mixture.{Warmed};
+ghost use Rattle.burning.specs.Steps.{MixedFits, FuelIn, WarmFuelIn};
+use formulas::block::held;
+use formulas::rounding::Nanojoules;
+use mixture::Warmth;
+use quantity::gas::CubicMetres;
+use quantity::gas::GasTotal;
+use quantity::heat::HeatingValue;
+use quantity::heat::Joules;
+use quantity::temperature::Degrees;
+use quantity::temperature::Rise;
+use sheet::Stages;
+
+// The specific heat of the fuel at a temperature, in 1e-10 kJ/(m³·°C).
+pub struct MixedHeat(pub i64);
+
+// The gas of one stage more.
+fn more(sum: GasTotal, gas: CubicMetres) -> GasTotal
+    requires { ⌜ SFits w32 (sum .0 +ℤ gas .0) ⌝ }
+    ensures { λ r. ⌜ r .0 ≡ sum .0 +ℤ gas .0 ⌝ }
+{
+    GasTotal(sum.0 + gas.0)
+}
+
+// The gas of all stages.
+pub fn total_gas(stages: Stages) -> GasTotal
+    requires { ⌜ Every StageIn (stagesOf stages) ⌝ }
+    ensures { λ r. ⌜ r .0 ≡ totalGas (stagesOf stages) ⌝ }
+{
+    let lines = stages.lines;
+    let count = held(stages.count.0, 12);
+    let mut sum = GasTotal(0);
+    for i in 0..count {
+        let stage = lines[i];
+        sum = more(sum, stage.gas);
+    }
+    sum
+}
+
+// The heat of burning.
+pub fn q1(gas: GasTotal, heating: HeatingValue) -> Joules
+    requires { ⌜ FuelIn (gas .0) (heating .0) ⌝ }
+    ensures { λ r. ⌜ ((f : Firing) → totalGas (f .stages) ≡ gas .0 → f .fuel .heating ≡ heating .0 → Figure joule q1Most (r .0) (q1 f paper)) ⌝ }
+{
+    Joules(gas.0 as i64 * heating.0 as i64 * 100)
+}
+
+// Formula 4, on a straight line between 0 and 100 °C.
+fn mixed_heat(warmth: Warmth, at: Degrees) -> MixedHeat
+    requires { ⌜ MixedFits (warmth .cold) (warmth .rise) (at .0) ⌝ }
+    ensures { λ r. ⌜ r .0 ≡ warmth .cold *ℤ pos 1000 +ℤ warmth .rise *ℤ at .0 ⌝ }
+{
+    MixedHeat(warmth.cold * 1000 + warmth.rise * at.0 as i64)
+}
+
+// Formula 2 before it is rounded.
+fn brought(gas: GasTotal, c: MixedHeat, rise: Rise) -> Nanojoules
+    requires { ⌜ ProductFits (gas .0) (c .0) (rise .0) ⌝ }
+    ensures { λ r. ⌜ r .0 ≡ gas .0 *ℤ c .0 *ℤ rise .0 ⌝ }
+{
+    Nanojoules(gas.0 as i64 * c.0 * rise.0)
+}
+
+// The fuel's heat above the base temperature.
+pub fn q2(gas: GasTotal, warmth: Warmth, at: Degrees, t: Degrees) -> Joules
+    requires { ⌜ WarmFuelIn (gas .0) (warmth .cold) (warmth .rise) (at .0) (t .0) ⌝ }
+    ensures { λ r. ⌜ ((f : Firing) → totalGas (f .stages) ≡ gas .0 → Warmed (f .gas) warmth → f .fuel .temperature ≡ at .0 → f .ambient ≡ t .0 →
+        Figure joule q2Most (r .0) (q2 f paper)) ⌝ }
+{
+    brought(gas, mixed_heat(warmth, at), at.above(t)).joules()
+}

@@ -1,0 +1,106 @@
+-- A sheet, what a document says of its lines, and the text of a sheet: over any document.
+use Prim.Native.Nat.{ℕ, _+_, _*_}
+use mathlib.Core.Path.{_≡_}
+use mathlib.Core.List.{List, [], _∷_, _++_}
+use mathlib.Core.Option.{Option}
+use mathlib.Core.Bool.{Bool, true, false, cond, _&&_}
+use lib.ListN.{length}
+use lib.Dec.{leb, eqb}
+use lib.IntN.{pos}
+use Rattle.sheet.specs.declared.Refusal.{Refusal}
+use Rattle.document.specs.Schema.{Field, Line, Row, plain, lineText, sound}
+
+-- A SHEET: under each line's key the rows read, in the order of the sheet
+pub record Filled : Type 0 where
+  pub key : List ℕ
+  pub rows : List Row
+
+abbrev pub Sheet : Type 0
+Sheet = List Filled
+
+abbrev pub sameKey : List ℕ → List ℕ → Bool
+sameKey [] [] = true
+sameKey [] (b ∷ bs) = false
+sameKey (a ∷ as′) [] = false
+sameKey (a ∷ as′) (b ∷ bs) = eqb a b && sameKey as′ bs
+
+abbrev pub rowsOf : List ℕ → Sheet → List Row
+rowsOf k [] = []
+rowsOf k (f ∷ fs) = cond (sameKey k (f .key)) (f .rows) (rowsOf k fs)
+
+-- what a line must keep beyond form and range, given all that stands above it
+abbrev pub Rule : Type 0
+Rule = Sheet → Row → Option Refusal
+
+-- the parts of a sheet: a line, or a count line with that many lines
+pub data Part : Type 0 where
+  one : Line → Rule → Part
+  many : List ℕ → ℕ → ℕ → Line → Rule → Part
+
+abbrev pub lineOf : Part → Line
+lineOf (one l rule) = l
+lineOf (many key a b l rule) = l
+
+abbrev pub ruleOf : Part → Rule
+ruleOf (one l rule) = rule
+ruleOf (many key a b l rule) = rule
+
+abbrev pub keyOf : Part → List ℕ
+keyOf p = lineOf p .key
+
+-- from a to b, both whole numbers
+abbrev pub to : ℕ → ℕ → Field
+to a b = record { least = pos a; greatest = pos b }
+
+abbrev pub countLine : List ℕ → ℕ → ℕ → Line
+countLine key a b = record { key = key; fields = to a b ∷ [] }
+
+-- A DOCUMENT: the first line, the lines that it chooses, and the rules of the whole sheet
+pub record Document : Type 0 where
+  pub first : Part
+  pub below : Sheet → List Part
+  pub whole : Sheet → Option Refusal
+
+abbrev pub soundPart : Part → Bool
+soundPart (one l rule) = sound l
+soundPart (many key a b l rule) = sound (countLine key a b) && sound l
+
+abbrev pub soundParts : List Part → Bool
+soundParts [] = true
+soundParts (p ∷ ps) = soundPart p && soundParts ps
+
+-- the most bytes that a line, a part and all parts can have: key, =, and at most eleven bytes for each field
+abbrev pub lineSize : Line → ℕ
+lineSize l = length (l .key) + 1 + 11 * length (l .fields)
+
+abbrev pub partSize : Part → ℕ
+partSize (one l rule) = lineSize l
+partSize (many key a b l rule) = lineSize (countLine key a b) + b * lineSize l
+
+abbrev pub partsSize : List Part → ℕ
+partsSize [] = 0
+partsSize (p ∷ ps) = partSize p + partsSize ps
+
+-- what a document must be, so that its texts can be read: every line sound, and no sheet longer than 16,384 bytes
+pub record Sound (d : Document) : Type 0 where
+  pub first : soundPart (d .first) ≡ true
+  pub below : (seen : Sheet) → soundParts (d .below seen) ≡ true
+  pub small : (seen : Sheet) → leb (partSize (d .first) + partsSize (d .below seen)) 16384 ≡ true
+
+-- THE TEXT OF A SHEET
+unfoldable pub rowsText : Line → List Row → List ℕ
+rowsText l [] = []
+rowsText l (row ∷ rows) = lineText l row ++ rowsText l rows
+
+abbrev pub partText : Part → List Row → List ℕ
+partText (one l rule) rows = rowsText l rows
+partText (many key a b l rule) rows = lineText (countLine key a b) (plain (pos (length rows) ∷ [])) ++ rowsText l rows
+
+unfoldable pub sheetText : List Part → Sheet → List ℕ
+sheetText [] sheet = []
+sheetText (p ∷ ps) [] = []
+sheetText (p ∷ ps) (f ∷ fs) = partText p (f .rows) ++ sheetText ps fs
+
+unfoldable pub textOf : Document → Sheet → List ℕ
+textOf d [] = []
+textOf d (f ∷ fs) = partText (d .first) (f .rows) ++ sheetText (d .below (f ∷ [])) fs

@@ -1,0 +1,103 @@
+-- What holds of a firing that keeps document 01's rules, by name: the form in which the formulas' proofs use them. Nothing here is believed:
+-- `sheet-limits` derives it from the rules.
+use Prim.Native.Nat.{_≤_}
+use mathlib.Core.Path.{_≡_}
+use mathlib.Core.List.{List, map}
+use lib.ListN.{length}
+use lib.IntN.{ℤ, pos}
+use lib.Signed.{_≤ℤ_, _<ℤ_}
+use Rattle.sheet.specs.Firing.{Stuff, Gas, Ware, Water, Stage, Setter, Part, Section, Wall, Firing}
+use Rattle.document.specs.Schema.{Field}
+use Rattle.document.specs.Quantities.{product, ambient, heating, fuelTemperature, share, moisture, mass, temperature, material, capacity, flue, cubicMetres, excess, monoxide, minutes, sectionNumber, place, area, stageNumber, surface, nearAir, gasTotal, stagesMost, settersMost, partsMost, sectionsMost, wallsMost}
+use Rattle.document.specs.Tests.{sumOf, weigh, airWeights}
+use Rattle.document.specs.Rules.{Every, NoTwo, Listed, AllRead}
+use Rattle.document.specs.Rows.{gasRow}
+
+pub record In (f : Field) (z : ℤ) : Type 0 where
+  pub low : f .least ≤ℤ z
+  pub high : z ≤ℤ f .greatest
+
+pub record StuffIn (x : Stuff) : Type 0 where
+  pub material : In material (x .material)
+  pub c : In capacity (x .c)
+
+pub record WareIn (x : Ware) : Type 0 where
+  pub green : In mass (x .green)
+  pub entry : In temperature (x .entry)
+  pub highest : In temperature (x .highest)
+  pub stuff : StuffIn (x .stuff)
+
+pub record WaterIn (x : Water) : Type 0 where
+  pub adsorbed : In mass (x .adsorbed)
+  pub crystal : In mass (x .crystal)
+  pub flue : In flue (x .flue)
+
+pub record StageIn (x : Stage) : Type 0 where
+  pub gas : In cubicMetres (x .gas)
+  pub excess : In excess (x .excess)
+  pub flue : In flue (x .flue)
+  pub co : In monoxide (x .co)
+  pub minutes : In minutes (x .minutes)
+
+pub record SetterIn (x : Setter) : Type 0 where
+  pub mass : In mass (x .mass)
+  pub entry : In temperature (x .entry)
+  pub stuff : StuffIn (x .stuff)
+
+pub record PartIn (x : Part) : Type 0 where
+  pub mass : In mass (x .mass)
+  pub stuff : StuffIn (x .stuff)
+  pub before : In temperature (x .before)
+  pub firing : In temperature (x .firing)
+
+pub record SectionIn (x : Section) : Type 0 where
+  pub number : In sectionNumber (x .number)
+  pub place : In place (x .place)
+  pub area : In area (x .area)
+
+-- the shares, each in its range, adding to 10,000, with theoretical air above 0
+pub record GasIn (g : Gas) : Type 0 where
+  pub each : Every (In share) (gasRow g .numbers)
+  pub sum : sumOf (gasRow g .numbers) ≡ pos 10000
+  pub air : pos 0 <ℤ weigh airWeights (gasRow g .numbers)
+
+-- a reading at a listed section in one of the stages, not colder than the air near it
+pub record WallIn (f : Firing) (w : Wall) : Type 0 where
+  pub section : In sectionNumber (w .section)
+  pub stage : In stageNumber (w .stage)
+  pub surface : In surface (w .surface)
+  pub air : In nearAir (w .air)
+  pub listed : Listed (f .sections) w
+  pub staged : w .stage ≤ℤ pos (length (f .stages))
+  pub warmer : w .air ≤ℤ w .surface
+
+-- no two readings at one section in one stage
+abbrev pub Apart : List Wall → Type 0
+Apart walls = NoTwo (λ x w. (x .section ≡ w .section) × (x .stage ≡ w .stage)) walls
+
+pub record Limits (f : Firing) : Type 0 where
+  pub product : In product (f .product)
+  pub ambient : In ambient (f .ambient)
+  pub heating : In heating (f .fuel .heating)
+  pub fuelTemperature : In fuelTemperature (f .fuel .temperature)
+  pub gas : GasIn (f .gas)
+  pub moisture : In moisture (f .moisture)
+  pub ware : WareIn (f .ware)
+  pub water : WaterIn (f .water)
+  pub clay : In mass (f .clay)
+  pub stages : Every StageIn (f .stages)
+  pub stagesMost : length (f .stages) ≤ stagesMost
+  pub total : In gasTotal (sumOf (map (λ x. x .gas) (f .stages)))
+  pub setters : Every SetterIn (f .setters)
+  pub settersMost : length (f .setters) ≤ settersMost
+  pub parts : Every PartIn (f .parts)
+  pub partsMost : length (f .parts) ≤ partsMost
+  pub sections : Every SectionIn (f .sections)
+  pub sectionsMost : length (f .sections) ≤ sectionsMost
+  pub walls : Every (WallIn f) (f .walls)
+  pub wallsMost : length (f .walls) ≤ wallsMost
+  pub apart : Apart (f .walls)
+
+-- every section has a reading in every stage, which are numbered from 1
+abbrev pub Measured : Firing → Type 0
+Measured f = AllRead (f .stages) (f .sections) (f .walls)

@@ -1,0 +1,99 @@
+-- The quantities of the sheet: the least and the greatest of each, in the units of document 01
+use Prim.Native.Nat.{ℕ}
+use lib.IntN.{pos, negℤ}
+use Rattle.document.specs.Schema.{Field}
+use Rattle.document.specs.Reader.{to}
+
+abbrev pub minus : ℕ → ℕ → Field
+minus a b = record { least = negℤ (pos a); greatest = pos b }
+
+abbrev pub edition : Field
+edition = to 1 1
+
+abbrev pub closing : Field
+closing = to 1 1
+
+abbrev pub firing : Field
+firing = to 1 999999999
+
+abbrev pub product : Field
+product = to 1000 1000000
+
+abbrev pub ambient : Field
+ambient = minus 200 500
+
+abbrev pub heating : Field
+heating = to 3000 130000
+
+abbrev pub fuelTemperature : Field
+fuelTemperature = to 0 600
+
+abbrev pub share : Field
+share = to 0 10000
+
+abbrev pub moisture : Field
+moisture = to 0 500
+
+abbrev pub mass : Field
+mass = to 0 1000000
+
+abbrev pub temperature : Field
+temperature = minus 200 18000
+
+abbrev pub material : Field
+material = to 0 18
+
+abbrev pub capacity : Field
+capacity = to 0 100000
+
+abbrev pub flue : Field
+flue = to 0 12000
+
+abbrev pub cubicMetres : Field
+cubicMetres = to 0 200000
+
+abbrev pub excess : Field
+excess = to 1000 5000
+
+abbrev pub monoxide : Field
+monoxide = to 0 1000
+
+abbrev pub minutes : Field
+minutes = to 1 2880
+
+abbrev pub sectionNumber : Field
+sectionNumber = to 1 999
+
+abbrev pub place : Field
+place = to 1 3
+
+abbrev pub area : Field
+area = to 1 20000
+
+abbrev pub stageNumber : Field
+stageNumber = to 1 12
+
+abbrev pub surface : Field
+surface = minus 200 3000
+
+abbrev pub nearAir : Field
+nearAir = minus 200 500
+
+abbrev pub gasTotal : Field
+gasTotal = to 100 200000
+
+-- how many lines a block has at most
+abbrev pub stagesMost : ℕ
+stagesMost = 12
+
+abbrev pub settersMost : ℕ
+settersMost = 32
+
+abbrev pub partsMost : ℕ
+partsMost = 32
+
+abbrev pub sectionsMost : ℕ
+sectionsMost = 12
+
+abbrev pub wallsMost : ℕ
+wallsMost = 48

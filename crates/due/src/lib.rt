@@ -1,0 +1,154 @@
+// What is due at a place of the sheet: the form of a line, its ranges and its rule, and the place after it, or the refusal. The line `gas`
+// stands here as well, since its rule has edits that must fail, and those check this small crate alone.
+pub mod coded;
+pub mod gas;
+
+use limits::Number;
+use sheet::Refusal;
+ghost use mathlib.Core.Path.{_≡_};
+ghost use mathlib.Core.Bool.{true};
+ghost use Prim.Native.Nat.{_+_, _≤_};
+ghost use lib.ListN.{length};
+ghost use Rattle.form.specs.Line.{zeros};
+ghost use Rattle.form.specs.Fields.{Keyed};
+ghost use Rattle.due.specs.Place.{good, goingOn, refusedAt, Ready, ranged as rangedPlace, ruled as ruledPlace};
+ghost use Rattle.due.specs.Form.{FormAfter, DueAfter};
+
+// Where the reading stands: before the line with a number, at a place of the text; or refused, with the line that was. The kind is 0 for as
+// long as nothing is refused (`coded`).
+pub struct Place {
+    pub kind: usize,
+    pub field: usize,
+    pub line: usize,
+    pub at: usize,
+}
+
+// The numbers of the line that was due, and the place after it.
+pub struct LineDue {
+    pub place: Place,
+    pub values: [Number; 13],
+}
+
+// The place of a refusal.
+fn refused(refusal: Refusal, line: usize) -> Place
+    ensures { λ r. ⌜ r ≡ refusedAt refusal line ⌝ }
+{
+    Place {
+        kind: coded::kind_of(refusal),
+        field: coded::field_of(refusal),
+        line,
+        at: 0,
+    }
+}
+
+// The place before the line after this one, which begins there.
+fn onward(line: usize, at: usize) -> Place
+    requires { ⌜ line ≤ 16385 ⌝ }
+    ensures { λ r. ⌜ r ≡ goingOn line at ⌝ }
+{
+    Place {
+        kind: 0,
+        field: 0,
+        line: line + 1,
+        at,
+    }
+}
+
+// Lays numbers into an array that is lent.
+fn lay(numbers: [i64; 13], v: &mut [i64; 13])
+    requires { ⌜ length (now v) ≡ 13 ⌝ }
+    ensures { λ _. ⌜ now (v .exit) ≡ numbers ⌝ }
+{
+    let mut i = 0;
+    while i < 13 {
+        v[i] = numbers[i];
+        i += 1;
+    }
+}
+
+// Reads a line that is not plainly in form, or names its fault.
+fn careful(s: &[u8], p: Place, key: &[u8], n: usize, v: &mut [i64; 13]) -> Place
+    requires { ⌜ n ≤ 13 ⌝ }
+    requires { ⌜ Ready (now s) p ⌝ }
+    requires { ⌜ good p ≡ true ⌝ }
+    requires { ⌜ length (now v) ≡ 13 ⌝ }
+    ensures { λ r. ⌜ FormAfter (now (s .entry)) p (now (key .entry)) n r (now (v .exit)) ⌝ }
+{
+    let l = form::judged(s, p.at, key, n);
+    let line = p.line;
+    let next = l.next;
+    if next == 0 {
+        let why = l.refusal;
+        return refused(why, line);
+    }
+    let values = l.values;
+    lay(values, v);
+    onward(line, next)
+}
+
+// Reads the form of the line that is due into an array of zeros, from the place behind its key, which is 0 where another key stands there; a
+// refused place passes through. Since `due` and `gas_line` both call it, the compiler does not copy it into every line's function.
+fn form(s: &[u8], p: Place, key: &[u8], behind: usize, n: usize, v: &mut [i64; 13]) -> Place
+    requires { ⌜ n ≤ 13 ⌝ }
+    requires { ⌜ Ready (now s) p ⌝ }
+    requires { ⌜ ((behind ≡ 0 → ⊥) → Keyed (now s) (p .at) (now key) × (behind ≡ p .at + length (now key))) ⌝ }
+    requires { ⌜ now v ≡ zeros ⌝ }
+    ensures { λ r. ⌜ FormAfter (now (s .entry)) p (now (key .entry)) n r (now (v .exit)) ⌝ }
+{
+    if p.kind == 0 {
+        if behind != 0 {
+            let next = quick::row(s, behind, n, v);
+            if next != 0 {
+                return onward(p.line, next);
+            }
+        }
+        return careful(s, p, key, n, v);
+    }
+    p
+}
+
+// The form of the line that is due, with its numbers. The key stands in the caller, so its bytes are compared with constants; and the place is
+// put together anew from its fields, for else the compiler has `form` write into this struct, which then stays in memory.
+pub fn due(s: &[u8], p: Place, key: &[u8], n: usize) -> LineDue
+    requires { ⌜ n ≤ 13 ⌝ }
+    requires { ⌜ Ready (now s) p ⌝ }
+    ensures { λ r. ⌜ DueAfter (now (s .entry)) p (now (key .entry)) n r ⌝ }
+{
+    let mut v = [0; 13];
+    let behind = quick::behind(s, p.at, key);
+    let q = form(s, p, key, behind, n, &mut v);
+    let values = amounts::numbers(v);
+    LineDue {
+        place: Place {
+            kind: q.kind,
+            field: q.field,
+            line: q.line,
+            at: q.at,
+        },
+        values,
+    }
+}
+
+// The place after a line whose first field outside its range is known, 0 for none.
+pub fn ranged(line: usize, q: Place, fault: usize) -> Place
+    ensures { λ r. ⌜ r ≡ rangedPlace line q fault ⌝ }
+{
+    if q.kind == 0 {
+        if fault != 0 {
+            return refused(Refusal::Outside(fault), line);
+        }
+    }
+    q
+}
+
+// The place after a line whose rule may be broken.
+pub fn ruled(line: usize, q: Place, broken: bool, why: Refusal) -> Place
+    ensures { λ r. ⌜ r ≡ ruledPlace line q broken why ⌝ }
+{
+    if q.kind == 0 {
+        if broken {
+            return refused(why, line);
+        }
+    }
+    q
+}

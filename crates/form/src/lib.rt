@@ -1,0 +1,74 @@
+// The form of one line of a sheet, judged with care: one thing is asked after the other, in the definition's order, so that the first fault has
+// a name.
+ghost use mathlib.Core.Path.{_≡_};
+ghost use Prim.Native.Nat.{_≤_};
+ghost use Rattle.document.specs.Schema.{refused, pieces};
+ghost use Rattle.form.specs.Line.{zeros, handed, lineAt};
+ghost use Rattle.form.specs.Fields.{fieldsOf};
+use sheet::Refusal;
+use text::Num;
+
+// What was read where a line is due: `Accepted`, its numbers and the place after it, or why it is refused.
+pub struct Line {
+    pub refusal: Refusal,
+    pub next: usize,
+    pub values: [i64; 13],
+}
+
+// The line at a place.
+pub fn judged(s: &[u8], at: usize, key: &[u8], n: usize) -> Line
+    requires { ⌜ n ≤ 13 ⌝ }
+    ensures { λ r. ⌜ r ≡ lineAt (now (s .entry)) at (now (key .entry)) n ⌝ }
+{
+    let e = text::find(s, at, b'\n');
+    if s.len() <= e {
+        return refuse(Refusal::NoLineFeed);
+    }
+    if text::starts(&s[at..e], key) {
+        fields(&s[at + key.len()..e], n, e + 1)
+    } else {
+        refuse(Refusal::WrongKey)
+    }
+}
+
+// What stands behind the key of a line that ends before `next`.
+fn fields(v: &[u8], n: usize, next: usize) -> Line
+    requires { ⌜ n ≤ 13 ⌝ }
+    ensures { λ r. ⌜ r ≡ fieldsOf n next 0 zeros (pieces 44 (now (v .entry))) ⌝ }
+{
+    if n == 0 || text::count(v, b',') != n - 1 {
+        return refuse(Refusal::WrongCount);
+    }
+    let mut values = [0i64; 13];
+    let mut at = 0;
+    let mut i = 0;
+    while i < n {
+        let e = text::find(v, at, b',');
+        match text::number(&v[at..e]) {
+            Num::Value(z) => {
+                values[i] = z;
+            }
+            Num::NotANumber => {
+                return refuse(Refusal::NotANumber(i + 1));
+            }
+        }
+        at = e + 1;
+        i += 1;
+    }
+    Line {
+        refusal: Refusal::Accepted,
+        next,
+        values,
+    }
+}
+
+// A line that is refused.
+fn refuse(refusal: Refusal) -> Line
+    ensures { λ r. ⌜ r ≡ handed 0 (refused refusal) ⌝ }
+{
+    Line {
+        refusal,
+        next: 0,
+        values: [0; 13],
+    }
+}

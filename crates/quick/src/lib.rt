@@ -1,0 +1,105 @@
+// A plain line of a sheet in one pass: its key (`behind`), and its numbers (`row`). Where anything is not plainly as it should be they say no and
+// name no fault; the crate `form` then reads the line with care.
+ghost use mathlib.Core.Path.{_≡_};
+ghost use mathlib.Core.Bool.{true};
+ghost use Prim.Native.Nat.{_+_, _≤_, _<_};
+ghost use lib.ListN.{length};
+ghost use Rattle.form.specs.Fields.{accepted, fieldsAt, Keyed};
+ghost use Rattle.quick.specs.Number.{Number};
+use std::num::wrapping_sub_u8;
+
+// A number and the place after the byte that closes it; place 0 where there is none.
+struct Whole {
+    value: i64,
+    next: usize,
+}
+
+// Whether the key stands at a place, with no LF in it.
+fn keyed(s: &[u8], at: usize, key: &[u8]) -> bool
+    ensures { λ r. ⌜ (r ≡ true → Keyed (now (s .entry)) at (now (key .entry))) ⌝ }
+{
+    if s.len() < key.len() || s.len() - key.len() < at {
+        return false;
+    }
+    let mut i = 0;
+    while i < key.len() {
+        if key[i] == b'\n' || s[at + i] != key[i] {
+            return false;
+        }
+        i += 1;
+    }
+    true
+}
+
+// The place behind the key that stands at a place; 0 where it does not stand there.
+pub fn behind(s: &[u8], at: usize, key: &[u8]) -> usize
+    ensures { λ r. ⌜ ((r ≡ 0 → ⊥) → Keyed (now (s .entry)) at (now (key .entry)) × (r ≡ at + length (now (key .entry)))) ⌝ }
+{
+    if keyed(s, at, key) {
+        return at + key.len();
+    }
+    0
+}
+
+// Reads n numbers with commas between them and an LF behind them into v, and answers the place after them, or 0.
+pub fn row(s: &[u8], start: usize, n: usize, v: &mut [i64; 13]) -> usize
+    requires { ⌜ n ≤ 13 ⌝ }
+    ensures { λ r. ⌜ ((r ≡ 0 → ⊥) → accepted r (now (v .exit)) ≡ fieldsAt (now (s .entry)) start n 0 (now (v .entry))) ⌝ }
+    ensures { λ _. ⌜ length (now (v .exit)) ≡ length (now (v .entry)) ⌝ }
+{
+    let mut at = start;
+    let mut i = 0;
+    while i < n {
+        let c = if i + 1 == n { b'\n' } else { b',' };
+        let q = number(s, at, c);
+        if q.next == 0 {
+            return 0;
+        }
+        let z = q.value;
+        v[i] = z;
+        i += 1;
+        if i == n {
+            return q.next;
+        }
+        at = q.next;
+    }
+    0
+}
+
+// The number without a sign at a place that the byte c closes. A sign is rare, so the careful reader has it.
+fn number(s: &[u8], at: usize, c: u8) -> Whole
+    requires { ⌜ c < 48 ⌝ }
+    ensures { λ r. ⌜ ((r .next ≡ 0 → ⊥) → Number (now (s .entry)) at c (r .value) (r .next)) ⌝ }
+{
+    if s.len() <= at {
+        return Whole { value: 0, next: 0 };
+    }
+    let first = s[at];
+    if first < b'0' || b'9' < first {
+        return Whole { value: 0, next: 0 };
+    }
+    let mut m = (first - b'0') as u64;
+    let mut k = at + 1;
+    while k < s.len() {
+        let b = s[k];
+        let d = wrapping_sub_u8(b, b'0');
+        if 9 < d {
+            if b != c {
+                return Whole { value: 0, next: 0 };
+            }
+            if first == b'0' && at + 1 < k {
+                return Whole { value: 0, next: 0 };
+            }
+            return Whole {
+                value: m as i64,
+                next: k + 1,
+            };
+        }
+        if 99_999_999 < m {
+            return Whole { value: 0, next: 0 };
+        }
+        m = m * 10 + d as u64;
+        k += 1;
+    }
+    Whole { value: 0, next: 0 }
+}
