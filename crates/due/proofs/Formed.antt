@@ -19,7 +19,7 @@ use Rattle.form.specs.declared.Line.{Line}
 use Rattle.form.specs.Line.{zeros, handed, lineAt}
 use Rattle.due.specs.declared.Place.{Place}
 use Rattle.due.specs.Place.{good, goingOn, refusedAt, Fair, Ready, Meets, After}
-use Rattle.amounts.specs.Taking.{plainNumbers, from}
+use Rattle.due.specs.Taking.{plainNumbers, from}
 use Rattle.due.specs.Form.{readForm, FormAfter}
 use Rattle.due.proofs.Places.{not-both, refused-bad, after-weaker}
 use Rattle.due.proofs.Lines.{in-form}

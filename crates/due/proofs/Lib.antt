@@ -1,3 +1,10 @@
 pub mod Places
+pub mod Ranges
+pub mod Chain
 pub mod Lines
 pub mod Formed
+pub mod Quantities
+pub mod Sequence
+pub mod Fills
+pub mod Above
+pub mod Said

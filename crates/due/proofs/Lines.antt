@@ -22,10 +22,10 @@ use Rattle.form.proofs.Judgement.{numbers-many}
 use Rattle.due.specs.declared.Place.{Place}
 use Rattle.due.specs.Place.{good, refusedAt, Fair, Stands, Meets, After, ranged, ruled}
 use Rattle.limits.specs.declared.Number.{Number}
-use Rattle.amounts.specs.Taking.{from, faultOf, Taken}
+use Rattle.due.specs.Taking.{from, faultOf, Taken}
 use Rattle.due.specs.Form.{formOf}
 use Rattle.due.proofs.Places.{not-both, refused-bad, after-weaker, after-left}
-use Rattle.amounts.proofs.Ranges.{fault-is, outside-some}
+use Rattle.due.proofs.Ranges.{fault-is, outside-some}
 
 -- ---- a line in form
 -- what a line in form is: its numbers as many as its fields, and at least its LF long

@@ -13,7 +13,7 @@ use Rattle.document.specs.Reader.{Reader, judged}
 use Rattle.due.specs.declared.Place.{Place}
 use Rattle.due.specs.declared.LineDue.{LineDue}
 use Rattle.due.specs.Place.{After}
-use Rattle.amounts.specs.Taking.{from}
+use Rattle.due.specs.Taking.{from}
 
 -- the key is given with its `=`
 abbrev pub readForm : List ℕ → ℕ → Reader Row

@@ -1,7 +1,6 @@
-// What is due at a place of the sheet: the form of a line, its ranges and its rule, and the place after it, or the refusal. The line `gas`
-// stands here as well, since its rule has edits that must fail, and those check this small crate alone.
+// What is due at a place of the sheet: the form of a line, its ranges and its rule, and the place after it, or the refusal.
 pub mod coded;
-pub mod gas;
+pub mod stuff;
 
 use limits::Number;
 use sheet::Refusal;
@@ -13,6 +12,7 @@ ghost use Rattle.form.specs.Line.{zeros};
 ghost use Rattle.form.specs.Fields.{Keyed};
 ghost use Rattle.due.specs.Place.{good, goingOn, refusedAt, Ready, ranged as rangedPlace, ruled as ruledPlace};
 ghost use Rattle.due.specs.Form.{FormAfter, DueAfter};
+ghost use Rattle.due.specs.Taking.{plainNumbers};
 
 // Where the reading stands: before the line with a number, at a place of the text; or refused, with the line that was. The kind is 0 for as
 // long as nothing is refused (`coded`).
@@ -88,7 +88,7 @@ fn careful(s: &[u8], p: Place, key: &[u8], n: usize, v: &mut [i64; 13]) -> Place
 
 // Reads the form of the line that is due into an array of zeros, from the place behind its key, which is 0 where another key stands there; a
 // refused place passes through. Since `due` and `gas_line` both call it, the compiler does not copy it into every line's function.
-fn form(s: &[u8], p: Place, key: &[u8], behind: usize, n: usize, v: &mut [i64; 13]) -> Place
+pub fn form(s: &[u8], p: Place, key: &[u8], behind: usize, n: usize, v: &mut [i64; 13]) -> Place
     requires { ⌜ n ≤ 13 ⌝ }
     requires { ⌜ Ready (now s) p ⌝ }
     requires { ⌜ ((behind ≡ 0 → ⊥) → Keyed (now s) (p .at) (now key) × (behind ≡ p .at + length (now key))) ⌝ }
@@ -107,6 +107,19 @@ fn form(s: &[u8], p: Place, key: &[u8], behind: usize, n: usize, v: &mut [i64; 1
     p
 }
 
+// The numbers of a line as numbers of the sheet.
+pub fn numbers(v: [i64; 13]) -> [Number; 13]
+    ensures { λ r. ⌜ plainNumbers r ≡ v ⌝ }
+{
+    let mut r = [Number(0); 13];
+    let mut i = 0;
+    while i < 13 {
+        r[i] = Number(v[i]);
+        i += 1;
+    }
+    r
+}
+
 // The form of the line that is due, with its numbers. The key stands in the caller, so its bytes are compared with constants; and the place is
 // put together anew from its fields, for else the compiler has `form` write into this struct, which then stays in memory.
 pub fn due(s: &[u8], p: Place, key: &[u8], n: usize) -> LineDue
@@ -117,7 +130,7 @@ pub fn due(s: &[u8], p: Place, key: &[u8], n: usize) -> LineDue
     let mut v = [0; 13];
     let behind = quick::behind(s, p.at, key);
     let q = form(s, p, key, behind, n, &mut v);
-    let values = amounts::numbers(v);
+    let values = numbers(v);
     LineDue {
         place: Place {
             kind: q.kind,

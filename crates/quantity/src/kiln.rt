@@ -86,25 +86,25 @@ impl SectionNumber {
 }
 
 // Where a section lies: 1 roof, 2 wall, 3 floor.
-pub struct Place(pub usize);
+pub struct SectionPlace(pub usize);
 
-pub struct PlaceRead {
-    pub value: Place,
+pub struct SectionPlaceRead {
+    pub value: SectionPlace,
     pub fault: usize,
 }
 
-impl Place {
+impl SectionPlace {
     pub const LEAST: usize = 1;
 
     pub const GREATEST: usize = 3;
 
     // Checks the place of a line `section`.
-    pub fn checked(v: Number, fault: usize, field: usize) -> PlaceRead
-        ensures { λ r. do ⌜ Counted (← ⟦Place::LEAST⟧ .entry) (← ⟦Place::GREATEST⟧ .entry) (v .0) fault field (r .value .0) (r .fault) ⌝ }
+    pub fn checked(v: Number, fault: usize, field: usize) -> SectionPlaceRead
+        ensures { λ r. do ⌜ Counted (← ⟦SectionPlace::LEAST⟧ .entry) (← ⟦SectionPlace::GREATEST⟧ .entry) (v .0) fault field (r .value .0) (r .fault) ⌝ }
     {
-        let read = counted(v, Place::LEAST, Place::GREATEST, fault, field);
-        PlaceRead {
-            value: Place(read.count),
+        let read = counted(v, SectionPlace::LEAST, SectionPlace::GREATEST, fault, field);
+        SectionPlaceRead {
+            value: SectionPlace(read.count),
             fault: read.fault,
         }
     }

@@ -21,11 +21,11 @@ use Rattle.document.specs.Editions.{document}
 use Rattle.document.specs.Rows.{stagesIn, sectionsIn, wallsIn, firingOf}
 use Rattle.document.specs.Limits.{Limits}
 use Rattle.document.proofs.Editions.{firing-limits}
-use Rattle.walls.specs.Walls.{allRead}
-use Rattle.walls.proofs.Document.{missing-is}
+use Rattle.walls.specs.Cells.{allRead}
+use Rattle.walls.proofs.Rules.{missing-is}
 use Rattle.due.specs.declared.Place.{Place}
-use Rattle.groups.specs.declared.all.Lines.{Lines}
-use Rattle.groups.specs.All.{Held, Sized}
+use Rattle.reader.specs.declared.all.Lines.{Lines}
+use Rattle.reader.specs.All.{Held, Sized}
 use Rattle.reader.specs.declared.whole.Outcome.{Outcome}
 use Rattle.due.specs.Place.{good, reason, refusedAt, Fair, Ready, Meets, After}
 use Rattle.reader.specs.Whole.{top, openingAs, gasOf, wholeAs, verdictAs, Judged, rejectedAs, Answers}

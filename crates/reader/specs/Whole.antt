@@ -15,13 +15,13 @@ use Rattle.document.specs.Quantities.{gasTotal}
 use Rattle.document.specs.Reader.{Answer, Refused, Good}
 use Rattle.document.specs.Tests.{sumOf}
 use Rattle.document.specs.Rows.{firingOf}
-use Rattle.walls.specs.Walls.{allRead}
+use Rattle.walls.specs.Cells.{allRead}
 use Rattle.due.specs.declared.Place.{Place}
-use Rattle.groups.specs.declared.all.Lines.{Lines}
-use Rattle.groups.specs.All.{Trimmed}
+use Rattle.reader.specs.declared.all.Lines.{Lines}
+use Rattle.reader.specs.All.{Trimmed}
 use Rattle.reader.specs.declared.whole.Outcome.{Outcome}
 use Rattle.due.specs.Place.{good, refusedAt}
-use Rattle.blank.specs.Blank.{blankSheet}
+use Rattle.sheet.specs.Blank.{blankSheet}
 
 -- before the first line
 abbrev pub top : Place

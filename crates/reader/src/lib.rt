@@ -1,12 +1,14 @@
 // From any byte string: the sheet that it is the text of, or the refusal and its line.
+pub mod all;
+mod ends;
 mod whole;
 
+use crate::all::Lines;
+use crate::all::all_lines;
 use crate::whole::opening;
 use crate::whole::rejected;
 use crate::whole::verdict;
 use due::coded::refusal_of;
-use groups::all::Lines;
-use groups::all::all_lines;
 use sheet::Refusal;
 pub use whole::Outcome;
 ghost use Rattle.document.specs.Editions.{document};

@@ -5,9 +5,9 @@ ghost use mathlib.Core.List.{map};
 ghost use lib.ListN.{length, take};
 ghost use Rattle.document.specs.Tests.{sumOf};
 ghost use Rattle.document.specs.Rules.{Every};
-ghost use Rattle.tiers.specs.Stages.{SmallGas};
+ghost use Rattle.blocks.specs.Stages.{SmallGas};
 ghost use Rattle.due.specs.Place.{refusedAt};
-ghost use Rattle.groups.specs.All.{Sized};
+ghost use Rattle.reader.specs.All.{Sized};
 ghost use Rattle.reader.specs.Whole.{openingAs, rejectedAs, verdictAs};
 use due::Place;
 use due::coded::field_of;
@@ -78,7 +78,7 @@ pub fn rejected(refusal: Refusal, line: usize) -> Outcome
         accepted: false,
         refusal,
         line,
-        sheet: blank::sheet(),
+        sheet: sheet::blank::sheet(),
     }
 }
 
@@ -105,7 +105,7 @@ pub fn verdict(n: usize, p: Place, sheet: Sheet) -> Place
     let sections = sheet.sections;
     let number = sections.count;
     let readings = sheet.readings;
-    if walls::all_read(readings, number.0, count.0) {
+    if walls::measured::all_read(readings, number.0, count.0) {
         return p;
     }
     refused(Refusal::Missing, 0)

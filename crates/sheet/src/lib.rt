@@ -1,4 +1,6 @@
 // A firing as its sheet gives it, line by line, and the reasons for which a sheet is refused.
+pub mod blank;
+
 ghost use mathlib.Core.Path.{_≡_};
 ghost use Rattle.sheet.specs.Refusals.{number};
 use quantity::gas::CarbonMonoxide;
@@ -11,8 +13,8 @@ use quantity::heat::SpecificHeat;
 use quantity::kiln::Area;
 use quantity::kiln::Material;
 use quantity::kiln::Minutes;
-use quantity::kiln::Place;
 use quantity::kiln::SectionNumber;
+use quantity::kiln::SectionPlace;
 use quantity::mass::Kilos;
 use quantity::mass::Product;
 use quantity::sheet::Edition;
@@ -96,7 +98,7 @@ pub struct Part {
 
 pub struct Section {
     pub number: SectionNumber,
-    pub place: Place,
+    pub place: SectionPlace,
     pub area: Area,
 }
 

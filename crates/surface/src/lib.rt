@@ -18,7 +18,7 @@ use formulas::rounding::Microjoules;
 use quantity::heat::Joules;
 use quantity::kiln::Area;
 use quantity::kiln::Minutes;
-use quantity::kiln::Place;
+use quantity::kiln::SectionPlace;
 use quantity::temperature::Degrees;
 use quantity::temperature::Rise;
 use sheet::Reading;
@@ -57,7 +57,7 @@ fn cut_down(a: u64, rise: u64) -> u64
 }
 
 // The first term of formula 25.
-fn convection(place: Place, rise: Rise) -> Flux
+fn convection(place: SectionPlace, rise: Rise) -> Flux
     requires { ⌜ RiseIn (place .0) (rise .0) ⌝ }
     ensures { λ r. ⌜ Exact convectionMost (r .0) (pos (root (square (placed (place .0)) (natAbs (rise .0))))) ⌝ }
 {

@@ -10,7 +10,7 @@ use lib.ListN.{length, getD}
 use lib.IntN.{ℤ, pos}
 use borrow.Author.Tests.{eqb-true, eqb-false}
 use Rattle.document.specs.Tests.{all, counted}
-use Rattle.walls.specs.Walls.{every}
+use Rattle.walls.specs.Cells.{every}
 
 -- One more number at which the test passes.
 pub every-more : (f : ℕ → Bool) (n : ℕ) → f n ≡ true → every f n ≡ true → every f (n + 1) ≡ true

@@ -1,7 +1,7 @@
 pub mod Every
-pub mod Same
-pub mod Sections
 pub mod Readings
 pub mod Missing
 pub mod Rulings
-pub mod Document
+pub mod Rules
+pub mod Walls
+pub mod Asked

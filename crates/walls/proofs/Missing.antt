@@ -12,9 +12,11 @@ use Rattle.sheet.specs.Firing.{Section, Wall}
 use Rattle.sheet.specs.Shown.{cell, unread, laid}
 use Rattle.document.specs.Rules.{Every}
 use Rattle.document.specs.Tests.{all, counted, isRead}
-use Rattle.walls.specs.Walls.{readAt, rowRead, allRead}
-use Rattle.walls.proofs.Sections.{Distinct, before-at}
-use Rattle.walls.proofs.Readings.{Placed, laid-read}
+use Rattle.walls.specs.Cells.{readAt, rowRead, allRead}
+use Rattle.sections.specs.Sections.{Distinct}
+use Rattle.sections.proofs.Sections.{before-at}
+use Rattle.walls.specs.Cells.{Placed}
+use Rattle.walls.proofs.Readings.{laid-read}
 use Rattle.walls.proofs.Every.{every-alike, every-listed, every-counted}
 
 module _ (S : List Section) (ws : List Wall) (k : ℕ) (few : length S ≤ 12) (short : k ≤ 12)

@@ -17,9 +17,9 @@ use Rattle.document.specs.Quantities.{stageNumber}
 use Rattle.document.specs.Limits.{In}
 use Rattle.document.specs.Rules.{Every}
 use Rattle.document.specs.Tests.{isRead}
-use Rattle.walls.specs.Walls.{readAt}
+use Rattle.walls.specs.Cells.{Placed, readAt}
 use Rattle.document.proofs.Rules.{same-self, same-is}
-use Rattle.walls.proofs.Sections.{before-one}
+use Rattle.sections.proofs.Sections.{before-one}
 
 -- A cell is looked up among the 144, and beyond the last there is none.
 read-there : (cells : List Reading) → length cells ≡ 144 → (k : ℕ) → (ltb k 144 && wasRead (getD cells (min k 143) unread)) ≡ readAt cells k
@@ -32,11 +32,6 @@ read-there cells n k = here (ltb k 144) refl
 pub read-is : (cells : List Reading) (k i : ℕ) (read : Bool) → length cells ≡ 144 → i ≡ min k 143
     → read ≡ (ltb k 144 && wasRead (getD cells i unread)) → read ≡ readAt cells k
 read-is cells k i read n e r = r ∙ ap (λ (j : ℕ). ltb k 144 && wasRead (getD cells j unread)) e ∙ read-there cells n k
-
--- A wall whose section is listed and whose stage is one of twelve.
-pub record Placed (S : List Section) (w : Wall) : Type 0 where
-  pub listed : before (w .section) S < length S
-  pub staged : In stageNumber (w .stage)
 
 -- A stage of a line `wall` is a natural number from 1 to 12.
 record Counts (z : ℤ) : Type 0 where

@@ -18,10 +18,11 @@ use Rattle.document.specs.Quantities.{stageNumber}
 use Rattle.document.specs.Limits.{In}
 use Rattle.document.specs.Rules.{Every}
 use Rattle.document.specs.Tests.{when, _else_, isRead, wallFault}
-use Rattle.walls.specs.declared.Ruling.{Ruling}
-use Rattle.walls.specs.Walls.{rulingOf, readAt}
-use Rattle.walls.proofs.Sections.{before-is}
-use Rattle.walls.proofs.Readings.{Placed, laid-read}
+use Rattle.walls.specs.declared.rows.Ruling.{Ruling}
+use Rattle.walls.specs.Cells.{rulingOf, readAt}
+use Rattle.sections.proofs.Sections.{before-is}
+use Rattle.walls.specs.Cells.{Placed}
+use Rattle.walls.proofs.Readings.{laid-read}
 
 -- What is said of the line: the refusal, if a rule is broken.
 abbrev pub said : Ruling → Option Refusal

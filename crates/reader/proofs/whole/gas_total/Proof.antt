@@ -10,9 +10,9 @@ use mir.Syntax.{w32, w64}
 use Rattle.arith.proofs.Order.{abs-add}
 use Rattle.arith.proofs.Machine.{Known, small, arg, from, _⟨+⟩_, fits, result}
 use Rattle.sheet.specs.declared.Stage.{Stage}
-use Rattle.blank.specs.Blank.{blankStage}
+use Rattle.sheet.specs.Blank.{blankStage}
 use Rattle.document.specs.Tests.{sumOf}
-use Rattle.tiers.specs.Stages.{SmallGas}
+use Rattle.blocks.specs.Stages.{SmallGas}
 use Rattle.document.proofs.Lists.{every-at}
 use Rattle.reader.proofs.Totals.{gas-more}
 use Rattle.reader.proofs.whole.gas_total.Statement.{statement}

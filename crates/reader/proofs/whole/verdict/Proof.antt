@@ -11,7 +11,7 @@ use Rattle.sheet.specs.declared.Sheet.{Sheet}
 use Rattle.sheet.specs.declared.Refusal.the-variants.{Surplus, Missing, GasTotal}
 use Rattle.document.specs.Schema.{within}
 use Rattle.document.specs.Quantities.{gasTotal}
-use Rattle.walls.specs.Walls.{allRead}
+use Rattle.walls.specs.Cells.{allRead}
 use Rattle.due.specs.declared.Place.{Place}
 use Rattle.due.specs.Place.{good, refusedAt}
 use Rattle.due.proofs.Places.{is-good, is-bad}

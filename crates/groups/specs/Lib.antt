@@ -1,4 +1,0 @@
-pub mod Said
-pub mod Tops
-pub mod Blocks
-pub mod All

@@ -1,0 +1,3 @@
+// The lines `firing` to `clay` but those of the fuel: quantities, ranges, rules.
+pub mod drying;
+pub mod heading;

@@ -1,0 +1,179 @@
+-- From what all lines say to the struct that shows it. Assumes nothing.
+use Prim.Native.Nat.{ℕ}
+use mathlib.Core.Path.{_≡_, refl, sym, ap, _∙_, subst}
+use mathlib.Core.Bool.{true, false}
+use mathlib.Core.List.{List, [], _∷_, _++_, map}
+use mathlib.Core.Option.{none}
+use lib.IntN.{ℤ, pos}
+use lib.ListN.{length, replicate, length-map}
+use Rattle.text.specs.Bytes.{bytes}
+use Rattle.quantity.specs.declared.gas.Share.{Share}
+use Rattle.sheet.specs.declared.Sheet.{Sheet as Sheetˢ}
+use Rattle.sheet.specs.Firing.{Section}
+use Rattle.sheet.specs.Shown.{gas, stage, setter, part, section, laid, unread}
+use Rattle.document.specs.Schema.{Row, plain, at}
+use Rattle.document.specs.Reader.{Sheet, rowsOf, one, filled, readLine, readPart, readParts, readLines}
+use Rattle.document.specs.Rules.{Every}
+use Rattle.document.specs.Rows.{gasOf, stageOf, setterOf, partOf, sectionOf, wallOf, first, editionIn, stageAs}
+use Rattle.document.specs.Tests.{free}
+use Rattle.document.specs.Entries.{partsOf}
+use Rattle.document.specs.Document01.{sheetLine, endLine, heading, fuelling, drying, staging, loading, surfaces, ending}
+use Rattle.document.specs.Editions.{entriesOf, linesOf, document}
+use Rattle.walls.specs.Cells.{Placed}
+use Rattle.sheet.specs.Blank.{blankStage, blankSetter, blankPart, blankSection}
+use Rattle.fuel.specs.Fuel.{shares}
+use Rattle.due.specs.declared.Place.{Place}
+use Rattle.due.specs.Place.{good, After}
+use Rattle.due.proofs.Places.{after-bind, after-weaker}
+use Rattle.reader.specs.declared.ends.EditionLine.{EditionLine}
+use Rattle.reader.specs.declared.ends.ClosingLine.{ClosingLine}
+use Rattle.due.proofs.Fills.{filled-most}
+use Rattle.due.proofs.Sequence.{pass-on, one-after}
+use Rattle.head.specs.declared.heading.Heading.{Heading}
+use Rattle.fuel.specs.declared.Fuelling.{Fuelling}
+use Rattle.head.specs.declared.drying.Drying.{Drying}
+use Rattle.blocks.specs.declared.stages.Staging.{Staging}
+use Rattle.blocks.specs.declared.Loading.{Loading}
+use Rattle.walls.specs.declared.Surfaces.{Surfaces}
+use Rattle.due.specs.Said.{Saying, says, Said, GroupRead}
+use Rattle.head.specs.Head.{headingSays, dryingSays}
+use Rattle.fuel.specs.Fuel.{fuellingSays}
+use Rattle.blocks.specs.Stages.{stagingSays, StagesRead}
+use Rattle.blocks.specs.Loads.{loadingSays}
+use Rattle.walls.specs.Surfaces.{surfacesSay, Below, SurfacesRead}
+use Rattle.reader.specs.All.{headOf, Held}
+use Rattle.due.proofs.Said.{none-read, line-then, group-then, _then_, lacks-kept}
+
+gas-is : (l : List Share) (r : Row) → shares l ≡ r .numbers → gasOf r ≡ gas l
+gas-is l r e = ap (λ (zs : List ℤ). gasOf (plain zs)) (sym e)
+
+module _ (e : EditionLine) (h : Heading) (f : Fuelling) (d : Drying) (a : Staging) (b : Loading) (c : Surfaces) where
+  abbrev sheetFrom : Sheetˢ
+  sheetFrom = record {
+    head = headOf (e .edition) h f d;
+    stages = a .stages;
+    setters = b .setters;
+    parts = b .parts;
+    sections = c .sections;
+    readings = c .readings;
+  }
+
+  -- what stands above the surfaces, and what is below it
+  abbrev aboveSays : List Saying
+  aboveSays = headingSays h ++ (fuellingSays f ++ (dryingSays d ++ (stagingSays a ++ loadingSays b)))
+
+  abbrev belowSays : (Row → Type 0) → List Saying
+  belowSays Z = surfacesSay c ++ (says endLine Z ∷ [])
+
+  below : (edition : Row) (sheet : Sheet) → Said aboveSays (filled sheetLine (edition ∷ [])) sheet → Below (a .stages .count .0) sheet
+  below edition sheet m =
+      let air = m .2 .2 .2 .2 .2 in
+      let stages = air .2 .2 .2 .2 in
+      let whole = stages .2 .2 .2 in
+      let top = filled sheetLine (edition ∷ []) in
+      record {
+        sections = lacks-kept (bytes "section") aboveSays top sheet refl m refl;
+        walls = lacks-kept (bytes "wall") aboveSays top sheet refl m refl;
+        stages =
+            length-map (rowsOf (bytes "stage") sheet) (stageAs (editionIn sheet))
+            ∙ ap (λ (x : Sheet). length (rowsOf (bytes "stage") x)) whole
+            ∙ stages .1 .count;
+      }
+
+  -- the struct shows what all lines say
+  held : (Z : Row → Type 0) (edition : Row) → pos (e .edition .0) ≡ at edition 0 → (sheet : Sheet)
+      → Said (aboveSays ++ belowSays Z) (filled sheetLine (edition ∷ [])) sheet → Held sheetFrom sheet
+  held Z edition is sheet firing =
+      let product = firing .2 in
+      let ambient = product .2 in
+      let fuel = ambient .2 in
+      let gas = fuel .2 in
+      let air = gas .2 in
+      let ware = air .2 in
+      let water = ware .2 in
+      let clay = water .2 in
+      let stages = clay .2 in
+      let setters = stages .2 in
+      let parts = setters .2 in
+      let sections = parts .2 in
+      let walls = sections .2 in
+      let whole = walls .2 .2 in
+      let shown = sections .1 .filled in
+      let W = map wallOf (walls .0) in
+      subst (λ (x : Sheet). Held sheetFrom x) (sym whole)
+      (record {
+        shows = record {
+          lines = λ i. record {
+            edition = sym is i;
+            number = sym (firing .1) i;
+            product = sym (product .1) i;
+            ambient = sym (ambient .1) i;
+            fuel = sym (fuel .1) i;
+            gas = gas-is (f .gas) (first (gas .0)) (gas .1) i;
+            moisture = sym (air .1) i;
+            ware = sym (ware .1) i;
+            water = sym (water .1) i;
+            clay = sym (clay .1) i;
+            stages = sym (stages .1 .shown) i;
+            setters = sym (setters .1 .shown) i;
+            parts = sym (parts .1 .shown) i;
+            sections = sym (shown .shown) i;
+            walls = W;
+          };
+          readings = walls .1 .lie ∙ ap (λ (x : List Section). laid x (replicate 144 unread) W) (shown .shown);
+        };
+        trimmed = record {
+          stages = stages .1 .rest;
+          setters = setters .1 .rest;
+          parts = parts .1 .rest;
+          sections = shown .rest;
+          stagesFit = filled-most stage stageOf blankStage 12 (stages .1);
+          settersFit = filled-most setter setterOf blankSetter 32 (setters .1);
+          partsFit = filled-most part partOf blankPart 32 (parts .1);
+          sectionsFit = filled-most section sectionOf blankSection 12 shown;
+        };
+        stagesAre = length-map (stages .0) stageOf ∙ stages .1 .count;
+        sectionsAre = length-map (sections .0) sectionOf ∙ shown .count;
+        distinct = sections .1 .distinct;
+        placed = subst (λ (x : List Section). Every (Placed x) W) (shown .shown) (walls .1 .placed);
+      })
+
+-- ---- group after group
+module _ (s : List ℕ) (start : Place) (e : EditionLine) (h : Heading) (f : Fuelling) (d : Drying) (a : Staging) (b : Loading) (c : Surfaces)
+    (z : ClosingLine) (Z : Row → Type 0)
+    (he : After s start (readLine sheetLine (λ row. none)) (e .place) (λ row. pos (e .edition .0) ≡ at row 0))
+    (hh : GroupRead s (e .place) (partsOf heading) (h .place) (headingSays h))
+    (hf : GroupRead s (h .place) (partsOf fuelling) (f .place) (fuellingSays f))
+    (hd : GroupRead s (f .place) (partsOf drying) (d .place) (dryingSays d))
+    (ha : StagesRead s (d .place) a)
+    (hb : GroupRead s (a .place) (partsOf loading) (b .place) (loadingSays b))
+    (hc : SurfacesRead s (b .place) (a .stages .count .0) c)
+    (hz : After s (c .place) (readLine endLine (λ row. none)) (z .place) Z) where
+  abbrev Q : Sheet → Type 0
+  Q = Held (sheetFrom e h f d a b c)
+
+  above : GroupRead s (e .place) (partsOf (heading ++ (fuelling ++ (drying ++ (staging ++ loading))))) (b .place) (aboveSays e h f d a b c)
+  above = hh then hf then hd then ha .after then hb
+
+  last : GroupRead s (c .place) (partsOf ending) (z .place) (says endLine Z ∷ [])
+  last = line-then endLine free Z (λ seen. hz) (none-read (hz .fair))
+
+  -- ALL LINES
+  pub lines-after : After s start (readLines document) (z .place) Q
+  unfolding entriesOf
+  lines-after =
+      let below-read = partsOf surfaces ++ partsOf ending in
+      after-bind s start (e .place) (z .place) (readPart (one sheetLine free) []) (λ seen. readParts (linesOf (editionIn seen)) seen) _ Q
+      (one-after s sheetLine free [] start (e .place) (λ row. pos (e .edition .0) ≡ at row 0) he)
+      (λ t k.
+      (let r = k .2 .0 in
+      let top = filled sheetLine (r ∷ []) in
+      subst (λ (x : Sheet). After s (e .place) (readParts (linesOf (editionIn x)) x) (z .place) Q)
+      (sym (k .1 ∙ ap (λ (y : List Row). filled sheetLine y) (k .2 .1)))
+      (after-weaker s (e .place) (z .place) _ (Said (aboveSays e h f d a b c ++ belowSays e h f d a b c Z) top) Q (held e h f d a b c Z r (k .2 .2))
+      (group-then (partsOf (heading ++ (fuelling ++ (drying ++ (staging ++ loading))))) below-read (aboveSays e h f d a b c) (belowSays e h f d a b c Z) top
+      (above .after top)
+      (λ sheet m. group-then (partsOf surfaces) (partsOf ending) (surfacesSay c) (says endLine Z ∷ []) sheet (hc .after sheet (below e h f d a b c r sheet m))
+      (λ u n. last .after u) (last .passes) (last .fair))
+      (pass-on (hc .passes) (last .passes)) (last .fair)))))
+      (pass-on (above .passes) (pass-on (hc .passes) (last .passes))) (last .fair)

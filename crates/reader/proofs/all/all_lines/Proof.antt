@@ -1,0 +1,61 @@
+-- The groups one after the other. Assumes nothing.
+use borrow.Author.Needs.{needs}
+use Rattle.reader.proofs.Held.{lines-after}
+use Rattle.reader.proofs.all.all_lines.Statement.{statement}
+use Rattle.reader.proofs.all.all_lines.Tie as tie
+
+-- the start, from behind the loads
+abbrev start : tie.After-loading-lines → tie.Start
+start c =
+    let heading = c .before .before .before .before in
+    heading .before .before .before
+
+surface-lines-requires : tie.Need-surface-lines-requires
+surface-lines-requires c κs =
+    record { short = start c .pre .short; fair = c .loading-lines .ensures .fair }
+
+closing-line-requires : tie.Need-closing-line-requires
+closing-line-requires c κs =
+    record { short = start (c .before) .pre .short; fair = c .surface-lines .ensures .fair }
+
+returns : tie.Need-returns
+returns c =
+    let fields = c .before .before .before in
+    let head = fields .before .before .before in
+    let closing = head .before .before in
+    let surfaces = closing .before in
+    let loading = surfaces .before in
+    let staging = loading .before in
+    let drying = staging .before in
+    let fuelling = drying .before in
+    let heading = fuelling .before in
+    let first = heading .before in
+    let a = start loading .args in
+    rw (head .head-of .ensures)
+    (record {
+      after = lines-after (a .s .now) (a .start)
+          (first .edition-line .result) (heading .heading-lines .result) (fuelling .fuelling-lines .result) (drying .drying-lines .result)
+          (staging .staging-lines .result) (loading .loading-lines .result) (surfaces .surface-lines .result) (closing .closing-line .result) _
+          (first .edition-line .ensures) (heading .heading-lines .ensures) (fuelling .fuelling-lines .ensures) (drying .drying-lines .ensures)
+          (staging .staging-lines .ensures) (loading .loading-lines .ensures) (surfaces .surface-lines .ensures) (closing .closing-line .ensures);
+      sized = record {
+        stages = staging .staging-lines .ensures .within;
+        sections = surfaces .surface-lines .ensures .within;
+        small = staging .staging-lines .ensures .small;
+      };
+    })
+
+pub all-lines-spec : {M : Type 1} → statement M
+all-lines-spec =
+    tie.close
+    (tie.spec
+    (λ c κs. search needs)
+    (λ c κs. search needs)
+    (λ c κs. search needs)
+    (λ c κs. search needs)
+    (λ c κs. search needs)
+    (λ c κs. search needs)
+    surface-lines-requires
+    closing-line-requires
+    (λ c κs. search needs)
+    returns)

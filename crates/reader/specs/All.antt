@@ -1,0 +1,67 @@
+-- What the code has when it has read all lines.
+use Prim.Native.Nat.{ℕ, _-_, _≤_}
+use mathlib.Core.Path.{_≡_}
+use mathlib.Core.List.{List}
+use lib.ListN.{length, drop, replicate}
+use Rattle.quantity.specs.declared.sheet.Edition.{Edition}
+use Rattle.sheet.specs.declared.Head.{Head}
+use Rattle.sheet.specs.declared.Sheet.{Sheet as Sheetˢ}
+use Rattle.sheet.specs.Shown.{Shows}
+use Rattle.document.specs.Reader.{Sheet, readLines}
+use Rattle.document.specs.Editions.{document}
+use Rattle.document.specs.Rows.{stagesIn, sectionsIn, wallsIn, firingOf}
+use Rattle.document.specs.Rules.{Every}
+use Rattle.sections.specs.Sections.{Distinct}
+use Rattle.walls.specs.Cells.{Placed}
+use Rattle.due.specs.declared.Place.{Place}
+use Rattle.head.specs.declared.heading.Heading.{Heading}
+use Rattle.fuel.specs.declared.Fuelling.{Fuelling}
+use Rattle.head.specs.declared.drying.Drying.{Drying}
+use Rattle.reader.specs.declared.all.Lines.{Lines}
+use Rattle.due.specs.Place.{After}
+use Rattle.blocks.specs.Stages.{SmallGas}
+use Rattle.sheet.specs.Blank.{blankStage, blankSetter, blankPart, blankSection}
+
+abbrev pub headOf : Edition → Heading → Fuelling → Drying → Head
+headOf e h f d = record {
+  edition = e;
+  firing = h .firing;
+  product = h .product;
+  ambient = h .ambient;
+  fuel = f .fuel;
+  gas = f .gas;
+  moisture = d .moisture;
+  ware = d .ware;
+  water = d .water;
+  clay = d .clay;
+}
+
+-- the counts are within their arrays, beyond which nothing could be shown, and beyond their counts the blocks are blank
+pub record Trimmed (x : Sheetˢ) : Type 0 where
+  pub stages : drop (x .stages .count .0) (x .stages .lines) ≡ replicate (12 - x .stages .count .0) blankStage
+  pub setters : drop (x .setters .count .0) (x .setters .lines) ≡ replicate (32 - x .setters .count .0) blankSetter
+  pub parts : drop (x .parts .count .0) (x .parts .lines) ≡ replicate (32 - x .parts .count .0) blankPart
+  pub sections : drop (x .sections .count .0) (x .sections .lines) ≡ replicate (12 - x .sections .count .0) blankSection
+  pub stagesFit : x .stages .count .0 ≤ 12
+  pub settersFit : x .setters .count .0 ≤ 32
+  pub partsFit : x .parts .count .0 ≤ 32
+  pub sectionsFit : x .sections .count .0 ≤ 12
+
+-- the struct holds what the rows of a sheet say, and its rules of sections and walls were kept
+pub record Held (x : Sheetˢ) (sheet : Sheet) : Type 0 where
+  pub shows : Shows x (firingOf sheet)
+  pub trimmed : Trimmed x
+  pub stagesAre : length (stagesIn sheet) ≡ x .stages .count .0
+  pub sectionsAre : length (sectionsIn sheet) ≡ x .sections .count .0
+  pub distinct : Distinct (sectionsIn sheet)
+  pub placed : Every (Placed (sectionsIn sheet)) (wallsIn sheet)
+
+-- what holds of the struct whatever was read
+pub record Sized (x : Sheetˢ) : Type 0 where
+  pub stages : x .stages .count .0 ≤ 12
+  pub sections : x .sections .count .0 ≤ 12
+  pub small : Every SmallGas (x .stages .lines)
+
+pub record LinesRead (s : List ℕ) (start : Place) (r : Lines) : Type 0 where
+  pub after : After s start (readLines document) (r .place) (Held (r .sheet))
+  pub sized : Sized (r .sheet)

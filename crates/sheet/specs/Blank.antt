@@ -1,0 +1,56 @@
+-- What stands in a struct where nothing was read: 0 in every field.
+use lib.IntN.{pos}
+use lib.ListN.{replicate}
+use Rattle.sheet.specs.declared.Stuff.{Stuff}
+use Rattle.sheet.specs.declared.Stage.{Stage}
+use Rattle.sheet.specs.declared.Setter.{Setter}
+use Rattle.sheet.specs.declared.Part.{Part}
+use Rattle.sheet.specs.declared.Section.{Section}
+use Rattle.sheet.specs.declared.Head.{Head}
+use Rattle.sheet.specs.declared.Sheet.{Sheet}
+use Rattle.sheet.specs.Shown.{unread}
+
+abbrev pub blankStuff : Stuff
+blankStuff = record { material = record { 0 = 0 }; c = record { 0 = pos 0 } }
+
+abbrev pub blankStage : Stage
+blankStage = record {
+  gas = record { 0 = pos 0 };
+  excess = record { 0 = pos 0 };
+  flue = record { 0 = pos 0 };
+  co = record { 0 = pos 0 };
+  minutes = record { 0 = pos 0 };
+}
+
+abbrev pub blankSetter : Setter
+blankSetter = record { mass = record { 0 = pos 0 }; entry = record { 0 = pos 0 }; stuff = blankStuff }
+
+abbrev pub blankPart : Part
+blankPart = record { mass = record { 0 = pos 0 }; stuff = blankStuff; before = record { 0 = pos 0 }; firing = record { 0 = pos 0 } }
+
+abbrev pub blankSection : Section
+blankSection = record { number = record { 0 = 0 }; place = record { 0 = 0 }; area = record { 0 = pos 0 } }
+
+abbrev pub blankHead : Head
+blankHead = record {
+  edition = record { 0 = 0 };
+  firing = record { 0 = pos 0 };
+  product = record { 0 = pos 0 };
+  ambient = record { 0 = pos 0 };
+  fuel = record { heating = record { 0 = pos 0 }; temperature = record { 0 = pos 0 } };
+  gas = replicate 13 (record { 0 = pos 0 });
+  moisture = record { 0 = pos 0 };
+  ware = record { green = record { 0 = pos 0 }; entry = record { 0 = pos 0 }; highest = record { 0 = pos 0 }; stuff = blankStuff };
+  water = record { adsorbed = record { 0 = pos 0 }; crystal = record { 0 = pos 0 }; flue = record { 0 = pos 0 } };
+  clay = record { 0 = pos 0 };
+}
+
+abbrev pub blankSheet : Sheet
+blankSheet = record {
+  head = blankHead;
+  stages = record { count = record { 0 = 0 }; lines = replicate 12 blankStage };
+  setters = record { count = record { 0 = 0 }; lines = replicate 32 blankSetter };
+  parts = record { count = record { 0 = 0 }; lines = replicate 32 blankPart };
+  sections = record { count = record { 0 = 0 }; lines = replicate 12 blankSection };
+  readings = replicate 144 unread;
+}

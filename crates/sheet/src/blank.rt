@@ -1,0 +1,168 @@
+// What stands in a struct where nothing was read: 0 in every field.
+ghost use mathlib.Core.Path.{_≡_};
+ghost use Rattle.sheet.specs.Shown.{unread};
+ghost use Rattle.sheet.specs.Blank.{blankStage, blankSetter, blankPart, blankSection, blankHead, blankSheet};
+use crate::Fuel;
+use crate::Head;
+use crate::Part;
+use crate::Parts;
+use crate::Reading;
+use crate::Section;
+use crate::Sections;
+use crate::Setter;
+use crate::Setters;
+use crate::Sheet;
+use crate::Stage;
+use crate::Stages;
+use crate::Stuff;
+use crate::Ware;
+use crate::Water;
+use quantity::gas::CarbonMonoxide;
+use quantity::gas::CubicMetres;
+use quantity::gas::ExcessAir;
+use quantity::gas::Moisture;
+use quantity::gas::Share;
+use quantity::heat::HeatingValue;
+use quantity::heat::SpecificHeat;
+use quantity::kiln::Area;
+use quantity::kiln::Material;
+use quantity::kiln::Minutes;
+use quantity::kiln::SectionNumber;
+use quantity::kiln::SectionPlace;
+use quantity::mass::Kilos;
+use quantity::mass::Product;
+use quantity::sheet::Edition;
+use quantity::sheet::FiringNumber;
+use quantity::sheet::PartCount;
+use quantity::sheet::SectionCount;
+use quantity::sheet::SetterCount;
+use quantity::sheet::StageCount;
+use quantity::temperature::Ambient;
+use quantity::temperature::Degrees;
+use quantity::temperature::FlueTemperature;
+use quantity::temperature::FuelTemperature;
+use quantity::temperature::NearAir;
+use quantity::temperature::SurfaceTemperature;
+
+// A stage that was not read.
+pub fn stage() -> Stage
+    ensures { λ r. ⌜ r ≡ blankStage ⌝ }
+{
+    Stage {
+        gas: CubicMetres(0),
+        excess: ExcessAir(0),
+        flue: FlueTemperature(0),
+        co: CarbonMonoxide(0),
+        minutes: Minutes(0),
+    }
+}
+
+// A setter that was not read.
+pub fn setter() -> Setter
+    ensures { λ r. ⌜ r ≡ blankSetter ⌝ }
+{
+    Setter {
+        mass: Kilos(0),
+        entry: Degrees(0),
+        stuff: Stuff {
+            material: Material(0),
+            c: SpecificHeat(0),
+        },
+    }
+}
+
+// A part that was not read.
+pub fn part() -> Part
+    ensures { λ r. ⌜ r ≡ blankPart ⌝ }
+{
+    Part {
+        mass: Kilos(0),
+        stuff: Stuff {
+            material: Material(0),
+            c: SpecificHeat(0),
+        },
+        before: Degrees(0),
+        firing: Degrees(0),
+    }
+}
+
+// A section that was not read.
+pub fn section() -> Section
+    ensures { λ r. ⌜ r ≡ blankSection ⌝ }
+{
+    Section {
+        number: SectionNumber(0),
+        place: SectionPlace(0),
+        area: Area(0),
+    }
+}
+
+// A cell without a reading.
+pub fn reading() -> Reading
+    ensures { λ r. ⌜ r ≡ unread ⌝ }
+{
+    Reading {
+        read: 0,
+        surface: SurfaceTemperature(0),
+        air: NearAir(0),
+    }
+}
+
+// The lines above the stages, none of them read.
+fn head() -> Head
+    ensures { λ r. ⌜ r ≡ blankHead ⌝ }
+{
+    Head {
+        edition: Edition(0),
+        firing: FiringNumber(0),
+        product: Product(0),
+        ambient: Ambient(0),
+        fuel: Fuel {
+            heating: HeatingValue(0),
+            temperature: FuelTemperature(0),
+        },
+        gas: [Share(0); 13],
+        moisture: Moisture(0),
+        ware: Ware {
+            green: Kilos(0),
+            entry: Degrees(0),
+            highest: Degrees(0),
+            stuff: Stuff {
+                material: Material(0),
+                c: SpecificHeat(0),
+            },
+        },
+        water: Water {
+            adsorbed: Kilos(0),
+            crystal: Kilos(0),
+            flue: FlueTemperature(0),
+        },
+        clay: Kilos(0),
+    }
+}
+
+// A sheet that was not read.
+pub fn sheet() -> Sheet
+    ensures { λ r. ⌜ r ≡ blankSheet ⌝ }
+{
+    Sheet {
+        head: head(),
+        stages: Stages {
+            count: StageCount(0),
+            lines: [stage(); 12],
+        },
+        setters: Setters {
+            count: SetterCount(0),
+            lines: [setter(); 32],
+        },
+        parts: Parts {
+            count: PartCount(0),
+            lines: [part(); 32],
+        },
+        sections: Sections {
+            count: SectionCount(0),
+            lines: [section(); 12],
+        },
+        readings: [reading(); 144],
+    }
+}

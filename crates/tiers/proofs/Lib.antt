@@ -1,4 +1,0 @@
-pub mod Sequence
-pub mod Fills
-pub mod Above
-pub mod Walls

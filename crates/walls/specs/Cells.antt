@@ -1,0 +1,47 @@
+-- The cells of the readings, by section and stage: which of them are read, and whether all are.
+use Prim.Native.Nat.{ℕ, _<_, zero, suc, _+_, _*_}
+use mathlib.Core.Bool.{Bool, true, false, _&&_, cond, not}
+use mathlib.Core.List.{List}
+use lib.ListN.{length, getD}
+use Rattle.sheet.specs.declared.Reading.{Reading}
+use Rattle.sheet.specs.Firing.{Section, Wall}
+use Rattle.sheet.specs.Shown.{before, unread, wasRead}
+use Rattle.document.specs.Quantities.{stageNumber}
+use Rattle.document.specs.Limits.{In}
+use Rattle.sheet.specs.declared.Refusal.{Refusal}
+use Rattle.sheet.specs.declared.Refusal.the-variants.{Accepted, NoSuchWall, ReadTwice, Colder}
+use Rattle.walls.specs.declared.rows.Ruling.{Ruling}
+
+-- A wall whose section is listed and whose stage is one of twelve.
+pub record Placed (S : List Section) (w : Wall) : Type 0 where
+  pub listed : before (w .section) S < length S
+  pub staged : In stageNumber (w .stage)
+
+-- 6: no such section or stage; 7: read already; 9: colder than the air near it
+unfoldable pub rulingOf : Bool → Bool → Bool → Bool → Ruling
+rulingOf listed staged read colder =
+    cond (not listed) (breaks NoSuchWall)
+    (cond (not staged) (breaks NoSuchWall)
+    (cond read (breaks ReadTwice)
+    (cond colder (breaks Colder)
+    (record { broken = false; why = Accepted }))))
+  where
+    breaks : Refusal → Ruling
+    breaks r = record { broken = true; why = r }
+
+-- a cell beyond the last is not read
+abbrev pub readAt : List Reading → ℕ → Bool
+readAt cells i = wasRead (getD cells i unread)
+
+-- a test passes at every number below n
+unfoldable pub every : (ℕ → Bool) → ℕ → Bool
+every f zero = true
+every f (suc n) = f n && every f n
+
+-- the i-th section was read in each of the first stages
+abbrev pub rowRead : List Reading → ℕ → ℕ → Bool
+rowRead cells i stages = every (λ j. readAt cells (i * 12 + j)) stages
+
+-- 8: each of the first sections was read in each of the first stages
+unfoldable pub allRead : List Reading → ℕ → ℕ → Bool
+allRead cells sections stages = every (λ i. rowRead cells i stages) sections
