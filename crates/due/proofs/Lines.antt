@@ -15,7 +15,7 @@ use Rattle.sheet.specs.declared.Refusal.{Refusal}
 use Rattle.sheet.specs.declared.Refusal.the-variants.{NoLineFeed, WrongKey, WrongCount, NotANumber, Outside}
 use Rattle.document.specs.Schema.{Line, Row, plain, Judged, refused, values, pieces, Numbers, none-at, all-are, onNumbers, numbersOf, formedBy, formed, outsideOf, on, judge}
 use Rattle.document.specs.Schema as schema
-use Rattle.document.specs.Tests.{when}
+use Rattle.document.specs.Tests.{when, _else_}
 use Rattle.document.specs.Reader.{stopped, got, judged, readLine}
 use Rattle.document.proofs.Cases.{unless-values}
 use Rattle.form.proofs.Judgement.{numbers-many}
@@ -129,33 +129,43 @@ module _ (s : List ℕ) (p q : Place) (l : Line) (P : Row → Type 0) (fault : �
   }
 
 -- ---- rules
-module _ (s : List ℕ) (p q : Place) (l : Line) (P : Row → Type 0) (rule : Row → Option Refusal) (broken : Bool) (why : Refusal) where
+module _ (s : List ℕ) (p q : Place) (l : Line) (P : Row → Type 0) (above rule : Row → Option Refusal) (broken : Bool) (why : Refusal) where
   abbrev pub Kept : Row → Type 0
   Kept row = P row × (rule row ≡ none)
 
   rule-cases : (n : ℕ) (text : List ℕ) (j : Judged) → ((row : Row) → P row → rule row ≡ when broken why)
-      → Meets s (judged j (λ row. none) n text) q P → Meets s (judged j rule n text) (ruled n q broken why) Kept
+      → Meets s (judged j above n text) q P → Meets s (judged j (λ row. above row else rule row) n text) (ruled n q broken why) Kept
   rule-cases n text (refused r) f m = test-off s q n broken why P r n m
-  rule-cases n text (values row size) f m = here broken refl (rule row) refl
+  rule-cases n text (values row size) f m = first (above row) m
     where
-      here : (t : Bool) → broken ≡ t → (o : Option Refusal) → rule row ≡ o
+      here : Stands s q (suc n) (drop size text) × P row → (t : Bool) → broken ≡ t → (o : Option Refusal) → rule row ≡ o
           → Meets s (on o (got row (suc n) (drop size text)) (λ r. stopped r n)) (ruled n q broken why) Kept
-      here true e o u =
+      here m true e o u =
           let w : o ≡ some why = sym u ∙ f row (m .1) ∙ ap (λ (t : Bool). when t why) e in
           rw w (test-failed s q n broken why P (suc n) (drop size text) e (m .0))
-      here false e o u =
+      here m false e o u =
           let w : o ≡ none = sym u ∙ f row (m .1) ∙ ap (λ (t : Bool). when t why) e in
           rw w (test-passed s q n broken why Kept row (suc n) (drop size text) e (m .0) (m .1, u ∙ w))
 
-  -- a line in range, and then its rule
-  pub ruled-after : ((row : Row) → P row → rule row ≡ when broken why) → After s p (readLine l (λ row. none)) q P
-      → After s p (readLine l rule) (ruled (p .line) q broken why) Kept
+      first : (o : Option Refusal) → Meets s (on o (got row (suc n) (drop size text)) (λ r. stopped r n)) q P
+          → Meets s (on (o else rule row) (got row (suc n) (drop size text)) (λ r. stopped r n)) (ruled n q broken why) Kept
+      first (some r) m = test-off s q n broken why P r n m
+      first none m = here m broken refl (rule row) refl
+
+  -- a line that kept the rules above, and then one more
+  pub ruled-after : ((row : Row) → P row → rule row ≡ when broken why) → After s p (readLine l above) q P
+      → After s p (readLine l (λ row. above row else rule row)) (ruled (p .line) q broken why) Kept
   unfolding readLine
   ruled-after f a = record {
     reads = λ h. rule-cases (p .line) (drop (p .at) s) (judge l (drop (p .at) s)) f (a .reads h);
     passes = λ h. let e = a .passes h in not-good (p .line) q why (good q) broken (ap (λ (y : Place). good y) e ∙ h) ∙ e;
     fair = good-test (p .line) q why s (good q && broken) (a .fair);
   }
+
+-- a rule said in other words
+pub rule-as : {s : List ℕ} {p q : Place} {P : Row → Type 0} (l : Line) (rule rule′ : Row → Option Refusal) → ((row : Row) → rule row ≡ rule′ row)
+    → After s p (readLine l rule) q P → After s p (readLine l rule′) q P
+rule-as {s} {p} {q} {P} l rule rule′ e = subst (λ (x : Row → Option Refusal). After s p (readLine l x) q P) (λ i. λ row. e row i)
 
 -- ---- THE QUANTITIES OF A LINE: its form was read, its quantities taken, and the first fault tested
 pub line-after : (s : List ℕ) (p q : Place) (l : Line) (v : List Number) (fault : ℕ) (Shown : List ℤ → Type 0)
@@ -177,4 +187,4 @@ pub ruled-line : {s : List ℕ} {p q q₁ q₂ : Place} {fault : ℕ} (l : Line)
     → ((row : Row) → Shown (row .numbers) → rule row ≡ when broken why) → q₂ ≡ ruled (p .line) q₁ broken why
     → After s p (readLine l rule) q₂ (λ row. Shown (row .numbers))
 ruled-line {s} {p} {q} {q₁} {fault = fault} l v Shown rule broken why a t e f g =
-    rw g (after-left (ruled-after s p q₁ l (λ row. Shown (row .numbers)) rule broken why f (rw e (line-after s p q l v fault Shown a t))))
+    rw g (after-left (ruled-after s p q₁ l (λ row. Shown (row .numbers)) (λ row. none) rule broken why f (rw e (line-after s p q l v fault Shown a t))))

@@ -22,7 +22,7 @@ use Rattle.document.specs.Rows.{stagesIn, sectionsIn, wallsIn, firingOf}
 use Rattle.document.specs.Limits.{Limits}
 use Rattle.document.proofs.Editions.{firing-limits}
 use Rattle.walls.specs.Cells.{allRead}
-use Rattle.walls.proofs.Rules.{missing-is}
+use Rattle.walls.proofs.Missing.{all-read-is}
 use Rattle.due.specs.declared.Place.{Place}
 use Rattle.reader.specs.declared.all.Lines.{Lines}
 use Rattle.reader.specs.All.{Held, Sized}
@@ -47,7 +47,7 @@ read-same : {x : Sheetˢ} {sheet : Sheet} → Held x sheet → Sized x
 read-same {x} {sheet} h z =
     let few : length (sectionsIn sheet) ≤ 12 = omega (arith, h .sectionsAre, z .sections) in
     let short : length (stagesIn sheet) ≤ 12 = omega (arith, h .stagesAre, z .stages) in
-    missing-is sheet few (h .placed) short (h .distinct)
+    sym (all-read-is (sectionsIn sheet) (wallsIn sheet) (length (stagesIn sheet)) few short (h .distinct) (h .placed))
     ∙ ap (λ (c : List Reading). allRead c (length (sectionsIn sheet)) (length (stagesIn sheet))) (sym (h .shows .readings))
     ∙ ap₂ (allRead (x .readings)) (h .sectionsAre) (h .stagesAre)
 

@@ -6,7 +6,7 @@ use mathlib.Core.Path.{_≡_, refl, sym, ap, _∙_}
 use mathlib.Core.Bool.{Bool, true, false, cond, _||_}
 use mathlib.Core.List.{List, [], _∷_, _++_, map}
 use lib.Dec.{ltb, eqb, leb·suc-suc}
-use lib.ListN.{length, getD, take, drop, set, length-append, length-map, List·getD-append}
+use lib.ListN.{length, getD, take, drop, set, length-append, length-map, length-take, List·getD-append}
 use lib.IntN.{ℤ, pos, natAbs}
 use lib.Seq.{drop-cons, take-append-le, getD-at, take-at}
 use borrow.Author.Tests.{lt-ltb, eq-eqb, ne-eqb, eqb-true, eqb-false}
@@ -127,6 +127,10 @@ module _ {ns : List ℕ} (l : List Sectionˢ) (e : ns ≡ numbers l) where
   -- A section that is stored has its number stored.
   pub numbers-set : (i : ℕ) (x : Sectionˢ) → set ns i (x .number .0) ≡ numbers (set l i x)
   numbers-set i x = ap (λ m. set m i (x .number .0)) e ∙ set-numbers l i x
+
+-- as many sections are shown as are taken
+pub shown-length : (k : ℕ) (l : List Sectionˢ) → k ≤ length l → length (map section (take k l)) ≡ k
+shown-length k l h = length-map (take k l) section ∙ length-take k l ∙ omega arith
 
 -- Among the first k numbers a place is at most k.
 pub place-most : (n k : ℕ) (l : List ℕ) → placeOf n (take k l) ≤ k

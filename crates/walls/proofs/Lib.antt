@@ -2,6 +2,6 @@ pub mod Every
 pub mod Readings
 pub mod Missing
 pub mod Rulings
-pub mod Rules
+pub mod Naming
 pub mod Walls
 pub mod Asked

@@ -1,15 +1,15 @@
 -- The walls laid into their cells: each section and stage has a cell of its own among the 144, so a cell is read exactly where a wall of its
 -- section and stage was laid. Assumes nothing.
-use Prim.Native.Nat.{ℕ, _≤_, _<_, min}
+use Prim.Native.Nat.{ℕ, _≤_, _<_}
 use native.Mathlib.Omega.{arith}
 use mathlib.Core.Path.{_≡_, refl, sym, ap, _∙_}
 use mathlib.Core.Bool.{Bool, true, false, _&&_, _||_, or-false}
 use mathlib.Core.List.{List, [], _∷_, _++_}
-use lib.Dec.{eqb, ltb, leb→le}
-use lib.ListN.{length, getD, set, replicate, length-set, length-replicate, getD-replicate, List·getD-eq-default}
+use lib.Dec.{eqb, leb→le}
+use lib.ListN.{length, getD, set, replicate, length-set, length-replicate, getD-replicate}
 use lib.IntN.{ℤ, pos, negsuc, natAbs}
 use lib.Seq.{getD-set-same, getD-set-other}
-use borrow.Author.Tests.{eqb-true, eqb-false, ltb-true, ltb-false}
+use borrow.Author.Tests.{eqb-true, eqb-false}
 use Rattle.sheet.specs.declared.Reading.{Reading}
 use Rattle.sheet.specs.Firing.{Section, Wall}
 use Rattle.sheet.specs.Shown.{same, before, cell, reading, unread, wasRead, laid}
@@ -20,18 +20,6 @@ use Rattle.document.specs.Tests.{isRead}
 use Rattle.walls.specs.Cells.{Placed, readAt}
 use Rattle.document.proofs.Rules.{same-self, same-is}
 use Rattle.sections.proofs.Sections.{before-one}
-
--- A cell is looked up among the 144, and beyond the last there is none.
-read-there : (cells : List Reading) → length cells ≡ 144 → (k : ℕ) → (ltb k 144 && wasRead (getD cells (min k 143) unread)) ≡ readAt cells k
-read-there cells n k = here (ltb k 144) refl
-  where
-    here : (t : Bool) → ltb k 144 ≡ t → (t && wasRead (getD cells (min k 143) unread)) ≡ readAt cells k
-    here true e = let d : min k 143 ≡ k = omega (arith, ltb-true k 144 e) in ap (λ (i : ℕ). wasRead (getD cells i unread)) d
-    here false e = sym (ap wasRead (List·getD-eq-default cells unread (omega (arith, n, ltb-false k 144 e))))
-
-pub read-is : (cells : List Reading) (k i : ℕ) (read : Bool) → length cells ≡ 144 → i ≡ min k 143
-    → read ≡ (ltb k 144 && wasRead (getD cells i unread)) → read ≡ readAt cells k
-read-is cells k i read n e r = r ∙ ap (λ (j : ℕ). ltb k 144 && wasRead (getD cells j unread)) e ∙ read-there cells n k
 
 -- A stage of a line `wall` is a natural number from 1 to 12.
 record Counts (z : ℤ) : Type 0 where

@@ -1,72 +1,55 @@
--- Refusals 6, 7 and 9 of a line `wall`: the ruling is what document 01's rule says. A wall with no listed section has no cell, and the
--- ruling doesn't ask for it. Assumes nothing.
-use Prim.Native.Nat.{ℕ, _≤_}
-use mathlib.Core.Path.{_≡_, refl, sym, ap, _∙_}
+-- Refusals 6, 7 and 9 of a line `wall`, in the order in which the code looks at them. Assumes nothing.
+use Prim.Native.Nat.{ℕ, _≤_, _<_}
+use mathlib.Core.Path.{_≡_, refl, _∙_}
 use mathlib.Core.Bool.{Bool, true, false, not}
 use mathlib.Core.List.{List}
-use mathlib.Core.Option.{Option}
-use lib.Dec.{ltb, leb}
-use lib.ListN.{length, replicate}
-use lib.IntN.{ℤ, pos, negsuc, natAbs}
+use mathlib.Core.Option.{Option, none, some}
+use lib.ListN.{length}
+use lib.IntN.{pos}
 use lib.Signed.{ltZ}
-use borrow.Author.Tests.{ltb-true, leb-true, leb-false, le-ltb, lt-ltb}
+use borrow.Author.Tests.{le-ltb, lt-ltb}
 use Rattle.sheet.specs.declared.Refusal.{Refusal}
 use Rattle.sheet.specs.declared.Refusal.the-variants.{NoSuchWall, ReadTwice, Colder}
 use Rattle.sheet.specs.Firing.{Stage, Section, Wall}
-use Rattle.sheet.specs.Shown.{before, cell, unread, laid}
-use Rattle.document.specs.Quantities.{stageNumber}
-use Rattle.document.specs.Limits.{In}
-use Rattle.document.specs.Rules.{Every}
-use Rattle.document.specs.Tests.{when, _else_, isRead, wallFault}
-use Rattle.walls.specs.declared.rows.Ruling.{Ruling}
-use Rattle.walls.specs.Cells.{rulingOf, readAt}
+use Rattle.sheet.specs.Shown.{before}
+use Rattle.document.specs.Tests.{when, _else_, isListed, isRead, wallFault}
 use Rattle.sections.proofs.Sections.{before-is}
-use Rattle.walls.specs.Cells.{Placed}
-use Rattle.walls.proofs.Readings.{laid-read}
+use Rattle.walls.specs.declared.line.Wall.{Wall as Wallˢ}
+use Rattle.walls.specs.Walls.{wall, six}
 
--- What is said of the line: the refusal, if a rule is broken.
-abbrev pub said : Ruling → Option Refusal
-said r = when (r .broken) (r .why)
+-- the rules one after the other, from the left
+abbrev pub seven : List Wall → Wall → Option Refusal
+seven ws x = when (isRead ws (x .section) (x .stage)) ReadTwice
 
-pub ruling-is :
-    (listed staged read colder : Bool) →
-    when (not listed) NoSuchWall else when (not staged) NoSuchWall else when read ReadTwice else when colder Colder
-    ≡ said (rulingOf listed staged read colder)
-unfolding rulingOf
-ruling-is false staged read colder = refl
-ruling-is true false read colder = refl
-ruling-is true true true colder = refl
-ruling-is true true false true = refl
-ruling-is true true false false = refl
+abbrev pub nine : Wall → Option Refusal
+nine x = when (ltZ (x .surface) (x .air)) Colder
 
--- A stage above the last, asked of the number that the line has.
-beyond : (k : ℕ) (z : ℤ) → In stageNumber z → ltZ (pos k) z ≡ not (leb (natAbs z) k)
-beyond k (pos n) h = by (leb n k) refl
-  where
-    by : (t : Bool) → leb n k ≡ t → ltb k n ≡ not t
-    by true e = le-ltb k n (leb-true n k e)
-    by false e = lt-ltb k n (leb-false n k e)
-beyond k (negsuc n) h = absurd (h .low .le)
+abbrev pub inOrder : List Section → ℕ → List Wall → Wall → Option Refusal
+inOrder S k ws x = (six S k x else seven ws x) else nine x
 
-module _ (S : List Section) (ws : List Wall) (few : length S ≤ 12) (ps : Every (Placed S) ws) (w : Wall) (staged : In stageNumber (w .stage)) where
-  abbrev read : Bool
-  read = readAt (laid S (replicate 144 unread) ws) (cell S w)
+regrouped : (a b c d : Option Refusal) → a else (b else (c else d)) ≡ ((a else b) else c) else d
+regrouped none none c d = refl
+regrouped none (some r) c d = refl
+regrouped (some r) b c d = refl
 
-  -- Where the section is listed, its cell is read exactly where a wall above has its section and stage.
-  cell-above :
-      (t s colder : Bool) → ltb (before (w .section) S) (length S) ≡ t →
-      when (not t) NoSuchWall else when (not s) NoSuchWall else when (isRead ws (w .section) (w .stage)) ReadTwice else when colder Colder
-      ≡ said (rulingOf t s read colder)
-  cell-above true s colder e =
-      let placed : Placed S w = record { listed = ltb-true (before (w .section) S) (length S) e; staged = staged } in
-      ap (λ t. when (not s) NoSuchWall else when t ReadTwice else when colder Colder) (sym (laid-read S few w placed ws ps))
-      ∙ ruling-is true s read colder
-  cell-above false s colder e = ruling-is false s read colder
+pub fault-is : (stages : List Stage) (S : List Section) (ws : List Wall) (x : Wall) → wallFault stages S ws x ≡ inOrder S (length stages) ws x
+fault-is stages S ws x =
+    regrouped (when (not (isListed S (x .section))) NoSuchWall) (when (ltZ (pos (length stages)) (x .stage)) NoSuchWall) (seven ws x) (nine x)
 
-  pub wall-fault-is :
-      (stages : List Stage) →
-      wallFault stages S ws w ≡ said
-      (rulingOf (ltb (before (w .section) S) (length S)) (leb (natAbs (w .stage)) (length stages)) read (ltZ (w .surface) (w .air)))
-  wall-fault-is stages =
-      rw (before-is (w .section) S, beyond (length stages) (w .stage) staged)
-      (cell-above (ltb (before (w .section) S) (length S)) (leb (natAbs (w .stage)) (length stages)) (ltZ (w .surface) (w .air)) refl)
+-- 6 by the section's place and the stage's number
+staged : (a : Bool) → when (not a) NoSuchWall else when true NoSuchWall ≡ when true NoSuchWall
+staged true = refl
+staged false = refl
+
+module _ (S : List Section) (k : ℕ) (w : Wallˢ) where
+  abbrev place : ℕ
+  place = before (pos (w .section .0)) S
+
+  pub unlisted : length S ≤ place → six S k (wall w) ≡ when true NoSuchWall
+  unlisted h = rw (before-is (pos (w .section .0)) S, le-ltb place (length S) h)
+
+  pub unstaged : k < w .stage .0 → six S k (wall w) ≡ when true NoSuchWall
+  unstaged h = rw (lt-ltb k (w .stage .0) h) (staged (isListed S (pos (w .section .0))))
+
+  pub both-there : place < length S → w .stage .0 ≤ k → six S k (wall w) ≡ when false NoSuchWall
+  both-there h m = rw (before-is (pos (w .section .0)) S, lt-ltb place (length S) h, le-ltb k (w .stage .0) m)

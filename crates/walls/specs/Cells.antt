@@ -1,6 +1,6 @@
 -- The cells of the readings, by section and stage: which of them are read, and whether all are.
 use Prim.Native.Nat.{ℕ, _<_, zero, suc, _+_, _*_}
-use mathlib.Core.Bool.{Bool, true, false, _&&_, cond, not}
+use mathlib.Core.Bool.{Bool, true, _&&_}
 use mathlib.Core.List.{List}
 use lib.ListN.{length, getD}
 use Rattle.sheet.specs.declared.Reading.{Reading}
@@ -8,26 +8,11 @@ use Rattle.sheet.specs.Firing.{Section, Wall}
 use Rattle.sheet.specs.Shown.{before, unread, wasRead}
 use Rattle.document.specs.Quantities.{stageNumber}
 use Rattle.document.specs.Limits.{In}
-use Rattle.sheet.specs.declared.Refusal.{Refusal}
-use Rattle.sheet.specs.declared.Refusal.the-variants.{Accepted, NoSuchWall, ReadTwice, Colder}
-use Rattle.walls.specs.declared.rows.Ruling.{Ruling}
 
 -- A wall whose section is listed and whose stage is one of twelve.
 pub record Placed (S : List Section) (w : Wall) : Type 0 where
   pub listed : before (w .section) S < length S
   pub staged : In stageNumber (w .stage)
-
--- 6: no such section or stage; 7: read already; 9: colder than the air near it
-unfoldable pub rulingOf : Bool → Bool → Bool → Bool → Ruling
-rulingOf listed staged read colder =
-    cond (not listed) (breaks NoSuchWall)
-    (cond (not staged) (breaks NoSuchWall)
-    (cond read (breaks ReadTwice)
-    (cond colder (breaks Colder)
-    (record { broken = false; why = Accepted }))))
-  where
-    breaks : Refusal → Ruling
-    breaks r = record { broken = true; why = r }
 
 -- a cell beyond the last is not read
 abbrev pub readAt : List Reading → ℕ → Bool

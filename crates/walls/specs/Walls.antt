@@ -1,16 +1,20 @@
 -- The lines `wall`: one of them, its rules, and the readings that their rows lay into the cells.
-use Prim.Native.Nat.{ℕ, _≤_}
+use Prim.Native.Nat.{ℕ, _≤_, _<_}
 use mathlib.Core.Path.{_≡_}
-use mathlib.Core.Bool.{true}
+use mathlib.Core.Bool.{true, not}
 use mathlib.Core.List.{List, [], map}
-use lib.ListN.{length, replicate}
+use lib.ListN.{length, take, replicate}
+use lib.Signed.{ltZ}
 use lib.IntN.{pos}
-use mathlib.Core.Option.{none}
+use mathlib.Core.Option.{Option, none}
 use Rattle.limits.specs.declared.Number.{Number}
 use Rattle.sheet.specs.Firing.{Wall, Section}
-use Rattle.sheet.specs.Shown.{laid, unread}
+use Rattle.sheet.specs.declared.Refusal.{Refusal}
+use Rattle.sheet.specs.declared.Refusal.the-variants.{NoSuchWall}
+use Rattle.sheet.specs.declared.Section.{Section as Sectionˢ}
+use Rattle.sheet.specs.Shown.{section, cell, laid, unread}
 use Rattle.document.specs.Schema.{plain, Row}
-use Rattle.document.specs.Tests.{wall-rule}
+use Rattle.document.specs.Tests.{when, _else_, isListed, wall-rule}
 use Rattle.document.specs.Document01.{wallLine}
 use Rattle.document.specs.Rows.{wallOf, stagesIn, sectionsIn}
 use Rattle.document.specs.Rules.{Every}
@@ -20,7 +24,8 @@ use Rattle.due.specs.Taking.{from, Taken}
 use Rattle.sheet.specs.declared.Reading.{Reading}
 use Rattle.text.specs.Bytes.{bytes}
 use Rattle.document.specs.Reader.{Sheet, readLine, readRows}
-use Rattle.walls.specs.declared.rows.Ruling.{Ruling}
+use Rattle.walls.specs.declared.rows.NamedWall.{NamedWall}
+use Rattle.sections.specs.Sections.{numbers}
 use Rattle.walls.specs.Cells.{Placed}
 use Rattle.due.specs.declared.Place.{Place}
 use Rattle.walls.specs.declared.line.WallLine.{WallLine}
@@ -42,6 +47,26 @@ pub record WallAfter (s : List ℕ) (p : Place) (r : WallLine) : Type 0 where
   pub least : 1 ≤ r .wall .stage .0
   pub most : r .wall .stage .0 ≤ 12
 
+-- 6: no such section, or no such stage
+abbrev pub six : List Section → ℕ → Wall → Option Refusal
+six S k w = when (not (isListed S (w .section))) NoSuchWall else when (ltZ (pos k) (w .stage)) NoSuchWall
+
+-- a line that breaks it has no cell
+abbrev pub nowhere : ℕ → Place → Wallˢ → NamedWall
+nowhere n q w = record { place = ruled n q true NoSuchWall; wall = w; cell = 0 }
+
+-- a row that keeps it, and the cell of its section and stage
+pub record Named (S : List Section) (r : NamedWall) (row : Row) : Type 0 where
+  pub shown : wall (r .wall) ≡ wallOf row
+  pub placed : Placed S (wall (r .wall))
+  pub here : r .cell ≡ cell S (wall (r .wall))
+
+-- a wall line and rule 6, by any sections that have these numbers; whatever it said, its cell is one of the 144
+pub record NamedAfter (s : List ℕ) (p : Place) (ns : List ℕ) (count k : ℕ) (r : NamedWall) : Type 0 where
+  pub after : (lines : List Sectionˢ) → ns ≡ numbers lines → let S = map section (take count lines) in
+      After s p (readLine wallLine (λ row. six S k (wallOf row))) (r .place) (Named S r)
+  pub inside : r .cell < 144
+
 -- the walls' readings by section and stage
 pub record WallsShown (S : List Section) (cells : List Reading) (rows : List Row) : Type 0 where
   pub lie : cells ≡ laid S (replicate 144 unread) (map wallOf rows)
@@ -51,7 +76,3 @@ abbrev pub WallsAfter : List ℕ → Place → ℕ → List Section → ℕ → 
 WallsAfter s p n S k q cells =
     (seen : Sheet) → lacks (bytes "wall") seen ≡ true → sectionsIn seen ≡ S → length (stagesIn seen) ≡ k
     → After s p (readRows n wallLine wall-rule seen []) q (WallsShown S cells)
-
--- a wall line's place, once its rules are looked at
-abbrev pub settled : ℕ → Place → Ruling → Place
-settled n q r = ruled n q (r .broken) (r .why)

@@ -1,15 +1,14 @@
 // The lines `wall`, their rules, and the cell of section and stage that each reading is laid into.
 ghost use mathlib.Core.Path.{_≡_};
-ghost use Prim.Native.Nat.{_≤_, min};
-ghost use mathlib.Core.Bool.{_&&_};
-ghost use lib.Dec.{ltb, leb};
-ghost use lib.ListN.{take};
+ghost use mathlib.Core.Bool.{true};
+ghost use Prim.Native.Nat.{_≤_};
+ghost use lib.ListN.{length, take};
 ghost use lib.Signed.{ltZ};
 ghost use mathlib.Core.List.{map};
+ghost use Rattle.sheet.specs.declared.Refusal.the-variants.{ReadTwice, Colder};
 ghost use Rattle.sheet.specs.Shown.{wasRead, section};
-ghost use Rattle.walls.specs.Cells.{rulingOf};
-ghost use Rattle.due.specs.Place.{Ready};
-ghost use Rattle.walls.specs.Walls.{WallsAfter, settled};
+ghost use Rattle.due.specs.Place.{Ready, ruled as ruledPlace};
+ghost use Rattle.walls.specs.Walls.{nowhere, NamedAfter, WallsAfter};
 ghost use Rattle.walls.specs.Surfaces.{WallsRead};
 use crate::line::Wall;
 use crate::line::colder;
@@ -18,76 +17,66 @@ use crate::line::wall_count;
 use crate::line::wall_line;
 use due::Place;
 use due::ruled;
+use sections::section_place;
 use sheet::Reading;
 use sheet::Refusal;
 use sheet::Section;
 use sheet::Sections;
 
-// Whether a line `wall` breaks a rule, and which one first.
-pub struct Ruling {
-    pub broken: bool,
-    pub why: Refusal,
+// A wall line with the cell of its section and stage; a refused one has the first cell.
+pub struct NamedWall {
+    pub place: Place,
+    pub wall: Wall,
+    pub cell: usize,
 }
 
-// What is said of a line `wall`, by the first rule that it breaks.
-pub fn wall_ruling(listed: bool, staged: bool, read: bool, colder: bool) -> Ruling
-    ensures { λ r. ⌜ r ≡ rulingOf listed staged read colder ⌝ }
+// A wall line that names a section or a stage which there is not.
+fn unnamed(line: usize, q: Place, wall: Wall) -> NamedWall
+    ensures { λ r. ⌜ r ≡ nowhere line q wall ⌝ }
 {
-    if !listed {
-        return Ruling {
-            broken: true,
-            why: Refusal::NoSuchWall,
-        };
-    }
-    if !staged {
-        return Ruling {
-            broken: true,
-            why: Refusal::NoSuchWall,
-        };
-    }
-    if read {
-        return Ruling {
-            broken: true,
-            why: Refusal::ReadTwice,
-        };
-    }
-    if colder {
-        return Ruling {
-            broken: true,
-            why: Refusal::Colder,
-        };
-    }
-    Ruling {
-        broken: false,
-        why: Refusal::Accepted,
+    let place = ruled(line, q, true, Refusal::NoSuchWall);
+    NamedWall {
+        place,
+        wall,
+        cell: 0,
     }
 }
 
-// Where a cell is looked up: beyond the last there is none, so that the cell of a wall with no section may be asked for.
-pub fn looked_up(cell: usize) -> usize
-    ensures { λ r. ⌜ r ≡ min cell 143 ⌝ }
+// One line `wall` and rule 6 on it: its section is listed, and there is its stage.
+fn named_wall(s: &[u8], p: Place, numbers: &[usize; 12], count: usize, stages: usize) -> NamedWall
+    requires { ⌜ (count ≤ 12) × (count ≤ length (now numbers)) ⌝ }
+    requires { ⌜ Ready (now s) p ⌝ }
+    ensures { λ r. ⌜ NamedAfter (now (s .entry)) p (now (numbers .entry)) count stages r ⌝ }
 {
-    if cell < 144 { cell } else { 143 }
+    let l = wall_line(s, p);
+    let wall = l.wall;
+    let place = l.place;
+    let number = wall.section;
+    let stage = wall.stage;
+    let row = section_place(numbers, count, number);
+    if count <= row {
+        return unnamed(p.line, place, wall);
+    }
+    if stages < stage.0 {
+        return unnamed(p.line, place, wall);
+    }
+    NamedWall {
+        place,
+        wall,
+        cell: row * 12 + (stage.0 - 1),
+    }
 }
 
-// Whether a cell is read, by what lies where it is looked up; one beyond the last is not.
-pub fn is_read(there: Reading, cell: usize) -> bool
-    ensures { λ r. ⌜ r ≡ (ltb cell 144 && wasRead there) ⌝ }
+// Rules 7 and 9 on a wall line, by what lies in its cell.
+fn read_once(line: usize, q: Place, there: Reading, w: Wall) -> Place
+    ensures { λ r. ⌜ r ≡ ruledPlace line (ruledPlace line q (wasRead there) ReadTwice) (ltZ (w .surface .0) (w .air .0)) Colder ⌝ }
 {
-    cell < 144 && there.read == 1
-}
-
-// The place after a wall line, by the first rule that it breaks.
-fn wall_place(line: usize, q: Place, w: Wall, listed: bool, stages: usize, read: bool) -> Place
-    ensures { λ r. ⌜ r ≡ settled line q (rulingOf listed (leb (w .stage .0) stages) read (ltZ (w .surface .0) (w .air .0))) ⌝ }
-{
-    let stage = w.stage;
     let surface = w.surface;
     let air = w.air;
+    let read = there.read == 1;
     let cold = colder(surface, air);
-    let r = wall_ruling(listed, stage.0 <= stages, read, cold);
-    let why = r.why;
-    ruled(line, q, r.broken, why)
+    let first = ruled(line, q, read, Refusal::ReadTwice);
+    ruled(line, first, cold, Refusal::Colder)
 }
 
 pub struct WallRows {
@@ -114,17 +103,12 @@ pub fn wall_rows(
     let mut p = start;
     let mut i = 0;
     while i < n {
-        let l = wall_line(s, p);
+        let l = named_wall(s, p, &numbers, count, stages);
         let w = l.wall;
-        let number = w.section;
-        let stage = w.stage;
-        let j = sections::section_place(&numbers, count, number);
-        let cell = j * 12 + (stage.0 - 1);
-        let at = looked_up(cell);
-        let there = readings[at];
-        let read = is_read(there, cell);
+        let cell = l.cell;
+        let there = readings[cell];
         let q = l.place;
-        p = wall_place(p.line, q, w, j < count, stages, read);
+        p = read_once(p.line, q, there, w);
         if p.kind == 0 {
             let x = reading_of(w);
             readings[cell] = x;
