@@ -9,9 +9,6 @@ use Rattle.document.proofs.Forms.{same-key}
 use Rattle.document.proofs.Cases.{clash}
 use Rattle.due.specs.Block.{lacks}
 
-pub funext : {A B : Type 0} {f g : A → B} → ((x : A) → f x ≡ g x) → f ≡ g
-funext h = λ i. λ x. h x i
-
 -- the rows of a block are found under its key
 pub rows-here : (l : Line) (rows : List Row) (seen : Sheet) → lacks (l .key) seen ≡ true → rowsOf (l .key) (seen ++ filled l rows) ≡ rows
 rows-here l rows [] e = rw (same-key (l .key))

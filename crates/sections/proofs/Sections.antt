@@ -13,11 +13,7 @@ use borrow.Author.Tests.{lt-ltb, eq-eqb, ne-eqb, eqb-true, eqb-false}
 use Rattle.sheet.specs.declared.Section.{Section as Sectionˢ}
 use Rattle.sheet.specs.Firing.{Section}
 use Rattle.sheet.specs.Shown.{section, same, before}
-use Rattle.sheet.specs.declared.Refusal.the-variants.{SectionTwice}
-use Rattle.document.specs.Schema.{Row}
-use Rattle.document.specs.Reader.{Sheet}
-use Rattle.document.specs.Rows.{sectionOf, sectionsIn}
-use Rattle.document.specs.Tests.{isListed, when, section-rule}
+use Rattle.document.specs.Tests.{isListed}
 use Rattle.document.proofs.Rules.{same-self, same-is}
 use Rattle.sections.specs.Sections.{numbers, placeOf, Distinct}
 use Rattle.sections.proofs.Same.{same-false, same-swap, neither}
@@ -40,12 +36,6 @@ before-is z (x ∷ S) = rw (same-swap (x .number) z) (by (same z (x .number)) (b
     by : (t : Bool) → isListed S z ≡ ltb (before z S) (length S) → t || isListed S z ≡ ltb (cond t 0 (suc (before z S))) (suc (length S))
     by true h = sym (lt-ltb 0 (suc (length S)) (omega arith))
     by false h = h ∙ sym (leb·suc-suc (suc (before z S)) (length S))
-
--- 6: a section number stands twice
-pub section-rule-is :
-    (seen : Sheet) (row : Row) →
-    section-rule seen row ≡ when (ltb (before (sectionOf row .number) (sectionsIn seen)) (length (sectionsIn seen))) SectionTwice
-section-rule-is seen row = ap (λ t. when t SectionTwice) (before-is (sectionOf row .number) (sectionsIn seen))
 
 -- Two numbers that stand in one place are one.
 pub before-one : (a b : ℤ) (S : List Section) → before a S < length S → before a S ≡ before b S → a ≡ b

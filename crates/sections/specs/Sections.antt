@@ -2,16 +2,15 @@
 use Prim.Native.Nat.{ℕ, suc, _≤_, _<_}
 use mathlib.Core.Bool.{true, false, cond}
 use mathlib.Core.List.{List, [], _∷_, map}
-use lib.Dec.{eqb, ltb}
+use lib.Dec.{eqb}
 use lib.ListN.{getD, length, take}
 use mathlib.Core.Path.{_≡_}
 use mathlib.Core.Option.{Option, none}
 use Rattle.sheet.specs.declared.Refusal.{Refusal}
-use Rattle.sheet.specs.declared.Refusal.the-variants.{SectionTwice}
 use Rattle.sheet.specs.declared.Section.{Section as Sectionˢ}
-use Rattle.sheet.specs.Shown.{section, before}
+use Rattle.sheet.specs.Shown.{section}
 use Rattle.sheet.specs.Firing.{Section}
-use Rattle.document.specs.Tests.{isListed, when, section-rule}
+use Rattle.document.specs.Tests.{isListed, sectionFault, section-rule}
 use Rattle.text.specs.Bytes.{bytes}
 use Rattle.document.specs.Schema.{Row}
 use Rattle.document.specs.Reader.{Sheet, readLine, readRows, readPart}
@@ -38,15 +37,11 @@ placeOf n (x ∷ l) = cond (eqb x n) 0 (suc (placeOf n l))
 pub record Distinct (S : List Section) : Type 0 where
   pub apart : (i : ℕ) (d : Section) → i < length S → isListed (take i S) (getD S i d .number) ≡ false
 
--- 6: a section number stands among those above it
-abbrev pub twice : List Section → Row → Option Refusal
-twice S row = when (ltb (before (sectionOf row .number) S) (length S)) SectionTwice
-
 -- a section line and its rule, by any sections above it that have these numbers
 abbrev pub NewSection : List ℕ → Place → List ℕ → ℕ → SectionLine → Type 0
 NewSection s p above i r =
     (lines : List Sectionˢ) → above ≡ numbers lines
-    → let rule = twice (map section (take i lines)) in
+    → let rule : Row → Option Refusal = λ row. sectionFault (map section (take i lines)) (sectionOf row) in
     After s p (readLine sectionLine rule) (r .place) (λ row. (section (r .section) ≡ sectionOf row) × (rule row ≡ none))
 
 -- the rows of the sections, no number twice

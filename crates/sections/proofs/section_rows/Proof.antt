@@ -1,35 +1,32 @@
 -- The sections up to i have been read, their numbers stand beside them, and no number stands twice among them. Assumes nothing.
 use Prim.Native.Nat.{ℕ, suc, _+_, _-_, _≤_, _<_}
-use mathlib.Core.Path.{_≡_, refl, sym, ap, _∙_, subst}
+use mathlib.Core.Path.{_≡_, refl, sym, ap, _∙_}
 use mathlib.Core.Bool.{Bool, true, false}
 use mathlib.Core.List.{List, [], _∷_, _++_, map, map-append}
-use mathlib.Core.Option.{Option, none}
+use mathlib.Core.Option.{none}
 use native.Mathlib.Numerals.{add-one}
 use native.Mathlib.Omega.{arith}
 use borrow.Author.Needs.{needs}
-use lib.Dec.{ltb}
 use lib.ListN.{length, take, set, replicate, length-set}
-use Rattle.sheet.specs.declared.Refusal.{Refusal}
 use Rattle.sheet.specs.declared.Refusal.the-variants.{SectionTwice}
 use Rattle.sheet.specs.declared.Section.{Section as Sectionˢ}
 use Rattle.sheet.specs.Firing.{Section}
-use Rattle.sheet.specs.Shown.{section, before}
+use Rattle.sheet.specs.Shown.{section}
 use Rattle.text.specs.Bytes.{bytes}
 use Rattle.document.specs.Schema.{Row}
-use Rattle.document.specs.Tests.{when, section-rule, isListed}
+use Rattle.document.specs.Tests.{when, isListed, sectionFault, section-rule}
 use Rattle.document.specs.Document01.{sectionLine}
 use Rattle.document.specs.Reader.{Sheet, filled, readLine, readRows}
 use Rattle.document.specs.Rows.{sectionOf}
 use Rattle.document.proofs.Cases.{clash}
-use Rattle.sections.proofs.Sections.{section-rule-is}
-use Rattle.sections.specs.Sections.{numbers}
-use Rattle.sections.proofs.Sections.{before-is, distinct-none, distinct-more, numbers-length, numbers-set}
+use Rattle.sections.proofs.Sections.{distinct-none, distinct-more, numbers-length, numbers-set}
 use Rattle.due.specs.declared.Place.{Place}
 use Rattle.due.specs.Place.{Ready, After}
 use Rattle.sheet.specs.Blank.{blankSection}
-use Rattle.sections.specs.Sections.{twice, SectionsShown}
+use Rattle.sections.specs.Sections.{numbers, SectionsShown}
 use Rattle.due.specs.Block.{lacks}
-use Rattle.due.proofs.Above.{funext, rows-here}
+use Rattle.due.proofs.Above.{rows-here}
+use Rattle.due.proofs.Lines.{rule-as}
 use Rattle.due.proofs.Fills.{none-filled, one-filled}
 use Rattle.due.proofs.Places.{after-weaker, ready-after}
 use Rattle.due.proofs.Sequence.{block-start, block-more}
@@ -38,22 +35,20 @@ use Rattle.sections.proofs.section_rows.Tie as tie
 
 -- the document's rule at the rows so far is the code's
 rule-here : (seen : Sheet) (i : ℕ) (lines : List Sectionˢ) (rows : List Row) → lacks (bytes "section") seen ≡ true → SectionsShown i lines rows
-    → twice (map section (take i lines)) ≡ section-rule (seen ++ filled sectionLine rows)
-rule-here seen i lines rows e w =
-    funext (λ row. sym (section-rule-is (seen ++ filled sectionLine rows) row
-    ∙ ap (λ (S : List Section). twice S row) (ap (map sectionOf) (rows-here sectionLine rows seen e) ∙ sym (w .filled .shown))))
+    → (row : Row) → sectionFault (map section (take i lines)) (sectionOf row) ≡ section-rule (seen ++ filled sectionLine rows) row
+rule-here seen i lines rows e w row =
+    ap (λ (S : List Section). sectionFault S (sectionOf row)) (w .filled .shown ∙ ap (map sectionOf) (sym (rows-here sectionLine rows seen e)))
 
 not-twice : (t : Bool) → when t SectionTwice ≡ none → t ≡ false
 not-twice true e = clash cc
 not-twice false e = refl
 
 one-shown : (i : ℕ) (lines : List Sectionˢ) (rows : List Row) (x : Sectionˢ) (row : Row) → i < 12 → SectionsShown i lines rows
-    → (section x ≡ sectionOf row) × (twice (map section (take i lines)) row ≡ none) → SectionsShown (i + 1) (set lines i x) (rows ++ (row ∷ []))
+    → (section x ≡ sectionOf row) × (sectionFault (map section (take i lines)) (sectionOf row) ≡ none) → SectionsShown (i + 1) (set lines i x) (rows ++ (row ∷ []))
 one-shown i lines rows x row h w e =
     let S = map section (take i lines) in
     let n = sectionOf row .number in
-    let f = not-twice (ltb (before n S) (length S)) (e .1) in
-    let new : isListed (map sectionOf rows) n ≡ false = ap (λ (T : List Section). isListed T n) (sym (w .filled .shown)) ∙ before-is n S ∙ f in
+    let new : isListed (map sectionOf rows) n ≡ false = ap (λ (T : List Section). isListed T n) (sym (w .filled .shown)) ∙ not-twice (isListed S n) (e .1) in
     record {
       filled = one-filled section sectionOf blankSection 12 i lines rows x row h (w .filled) (e .0);
       distinct = rw (map-append sectionOf rows (row ∷ [])) (distinct-more (map sectionOf rows) (sectionOf row) (w .distinct) new);
@@ -61,17 +56,18 @@ one-shown i lines rows x row h w e =
 
 next : (s : List ℕ) (p q q′ : Place) (i : ℕ) (lines : List Sectionˢ) (x : Sectionˢ) (seen : Sheet) → i < 12 → lacks (bytes "section") seen ≡ true
     → After s p (readRows i sectionLine section-rule seen []) q (SectionsShown i lines)
-    → After s q (readLine sectionLine (twice (map section (take i lines)))) q′
-    (λ row. (section x ≡ sectionOf row) × (twice (map section (take i lines)) row ≡ none))
+    → After s q (readLine sectionLine (λ row. sectionFault (map section (take i lines)) (sectionOf row))) q′
+    (λ row. (section x ≡ sectionOf row) × (sectionFault (map section (take i lines)) (sectionOf row) ≡ none))
     → After s p (readRows (i + 1) sectionLine section-rule seen []) q′ (SectionsShown (i + 1) (set lines i x))
 next s p q q′ i lines x seen h e a b =
-    let P : Row → Type 0 = λ row. (section x ≡ sectionOf row) × (twice (map section (take i lines)) row ≡ none) in
+    let P : Row → Type 0 = λ row. (section x ≡ sectionOf row) × (sectionFault (map section (take i lines)) (sectionOf row) ≡ none) in
     rw (add-one i)
     (block-more s sectionLine section-rule seen p q q′ i (SectionsShown i lines) (SectionsShown (suc i) (set lines i x)) a
     (λ rows w. after-weaker s q q′ (readLine sectionLine (section-rule (seen ++ filled sectionLine rows))) P
     (λ row. SectionsShown (suc i) (set lines i x) (rows ++ (row ∷ [])))
     (λ row k. rw (add-one i) at (one-shown i lines rows x row h w k))
-    (subst (λ (rule : Row → Option Refusal). After s q (readLine sectionLine rule) q′ P) (rule-here seen i lines rows e w) b))
+    (rule-as sectionLine (λ row. sectionFault (map section (take i lines)) (sectionOf row)) (section-rule (seen ++ filled sectionLine rows))
+    (rule-here seen i lines rows e w) b))
     (b .passes) (b .fair))
 
 abbrev Inv-loop : tie.InvT-loop
