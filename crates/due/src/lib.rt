@@ -1,6 +1,5 @@
 // What is due at a place of the sheet: the form of a line, its ranges and its rule, and the place after it, or the refusal. The line `gas`
 // stands here as well, since its rule has edits that must fail, and those check this small crate alone.
-pub mod coded;
 pub mod gas;
 
 use limits::Number;
@@ -9,15 +8,15 @@ ghost use mathlib.Core.Path.{_≡_};
 ghost use mathlib.Core.Bool.{true};
 ghost use Prim.Native.Nat.{_+_, _≤_};
 ghost use lib.ListN.{length};
-ghost use Rattle.form.specs.Line.{zeros};
+ghost use Rattle.form.specs.Formed.{zeros};
 ghost use Rattle.form.specs.Fields.{Keyed};
 ghost use Rattle.due.specs.Place.{good, goingOn, refusedAt, Ready, ranged as rangedPlace, ruled as ruledPlace};
 ghost use Rattle.due.specs.Form.{FormAfter, DueAfter};
 
-// Where the reading stands: before the line with a number, at a place of the text; or refused, with the line that was. The kind is 0 for as
-// long as nothing is refused (`coded`).
+// Where the reading stands: before a line, at a place of the text; or refused, with document 01's number of the refusal, the field that it names
+// and the line that was refused. That number is 0 for as long as nothing is refused.
 pub struct Place {
-    pub kind: usize,
+    pub number: usize,
     pub field: usize,
     pub line: usize,
     pub at: usize,
@@ -30,12 +29,12 @@ pub struct LineDue {
 }
 
 // The place of a refusal.
-fn refused(refusal: Refusal, line: usize) -> Place
-    ensures { λ r. ⌜ r ≡ refusedAt refusal line ⌝ }
+pub fn refused(why: Refusal, line: usize) -> Place
+    ensures { λ r. ⌜ r ≡ refusedAt why line ⌝ }
 {
     Place {
-        kind: coded::kind_of(refusal),
-        field: coded::field_of(refusal),
+        number: sheet::refusal_number(why),
+        field: sheet::refusal_field(why),
         line,
         at: 0,
     }
@@ -47,7 +46,7 @@ fn onward(line: usize, at: usize) -> Place
     ensures { λ r. ⌜ r ≡ goingOn line at ⌝ }
 {
     Place {
-        kind: 0,
+        number: 0,
         field: 0,
         line: line + 1,
         at,
@@ -76,14 +75,17 @@ fn careful(s: &[u8], p: Place, key: &[u8], n: usize, v: &mut [i64; 13]) -> Place
 {
     let l = form::judged(s, p.at, key, n);
     let line = p.line;
-    let next = l.next;
-    if next == 0 {
-        let why = l.refusal;
-        return refused(why, line);
+    if l.number != 0 {
+        return Place {
+            number: l.number,
+            field: l.field,
+            line,
+            at: 0,
+        };
     }
     let values = l.values;
     lay(values, v);
-    onward(line, next)
+    onward(line, l.next)
 }
 
 // Reads the form of the line that is due into an array of zeros, from the place behind its key, which is 0 where another key stands there; a
@@ -95,7 +97,7 @@ fn form(s: &[u8], p: Place, key: &[u8], behind: usize, n: usize, v: &mut [i64; 1
     requires { ⌜ now v ≡ zeros ⌝ }
     ensures { λ r. ⌜ FormAfter (now (s .entry)) p (now (key .entry)) n r (now (v .exit)) ⌝ }
 {
-    if p.kind == 0 {
+    if p.number == 0 {
         if behind != 0 {
             let next = quick::row(s, behind, n, v);
             if next != 0 {
@@ -120,7 +122,7 @@ pub fn due(s: &[u8], p: Place, key: &[u8], n: usize) -> LineDue
     let values = amounts::numbers(v);
     LineDue {
         place: Place {
-            kind: q.kind,
+            number: q.number,
             field: q.field,
             line: q.line,
             at: q.at,
@@ -133,7 +135,7 @@ pub fn due(s: &[u8], p: Place, key: &[u8], n: usize) -> LineDue
 pub fn ranged(line: usize, q: Place, fault: usize) -> Place
     ensures { λ r. ⌜ r ≡ rangedPlace line q fault ⌝ }
 {
-    if q.kind == 0 {
+    if q.number == 0 {
         if fault != 0 {
             return refused(Refusal::Outside(fault), line);
         }
@@ -145,7 +147,7 @@ pub fn ranged(line: usize, q: Place, fault: usize) -> Place
 pub fn ruled(line: usize, q: Place, broken: bool, why: Refusal) -> Place
     ensures { λ r. ⌜ r ≡ ruledPlace line q broken why ⌝ }
 {
-    if q.kind == 0 {
+    if q.number == 0 {
         if broken {
             return refused(why, line);
         }

@@ -2,12 +2,9 @@
 mod whole;
 
 use crate::whole::opening;
-use crate::whole::rejected;
 use crate::whole::verdict;
-use due::coded::refusal_of;
 use groups::all::Lines;
 use groups::all::all_lines;
-use sheet::Refusal;
 pub use whole::Outcome;
 ghost use Rattle.document.specs.Editions.{document};
 ghost use Rattle.document.specs.Reader.{readOf};
@@ -21,28 +18,32 @@ pub fn judged(s: &[u8]) -> Lines
 {
     let n = s.len();
     let start = opening(n);
-    let looked = if start.kind == 0 { n } else { 0 };
+    let looked = if start.number == 0 { n } else { 0 };
     let l = all_lines(&s[..looked], start);
     let place = verdict(n, l.place, l.sheet);
     let sheet = l.sheet;
     Lines { place, sheet }
 }
 
-// The firing that a sheet gives, or the first rule that it breaks and the line, 0 for the whole sheet; then the firing is blank.
+// The firing that a sheet gives, or the number, the field and the line of the first rule that it breaks; then the firing is blank.
 pub fn read(s: &[u8]) -> Outcome
     ensures { λ r. ⌜ Answers (readOf document (now (s .entry))) r ⌝ }
 {
     let l = judged(s);
     let p = l.place;
-    if p.kind == 0 {
+    if p.number == 0 {
         let sheet = l.sheet;
         return Outcome {
-            accepted: true,
-            refusal: Refusal::Accepted,
+            number: 0,
+            field: 0,
             line: 0,
             sheet,
         };
     }
-    let why = refusal_of(p.kind, p.field);
-    rejected(why, p.line)
+    Outcome {
+        number: p.number,
+        field: p.field,
+        line: p.line,
+        sheet: blank::sheet(),
+    }
 }

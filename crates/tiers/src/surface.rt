@@ -144,7 +144,7 @@ pub fn wall_rows(
         let read = walls::is_read(there, cell);
         let q = l.place;
         p = wall_place(p.line, q, w, j < count, stages, read);
-        if p.kind == 0 {
+        if p.number == 0 {
             let x = reading_of(w);
             readings[cell] = x;
         }

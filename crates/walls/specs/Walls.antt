@@ -6,7 +6,7 @@ use lib.Dec.{eqb}
 use lib.ListN.{getD}
 use Rattle.sheet.specs.declared.Reading.{Reading}
 use Rattle.sheet.specs.declared.Refusal.{Refusal}
-use Rattle.sheet.specs.declared.Refusal.the-variants.{Accepted, NoSuchWall, ReadTwice, Colder}
+use Rattle.sheet.specs.declared.Refusal.the-variants.{NoSuchWall, ReadTwice, Colder}
 use Rattle.sheet.specs.declared.Section.{Section}
 use Rattle.sheet.specs.Shown.{unread, wasRead}
 use Rattle.walls.specs.declared.Ruling.{Ruling}
@@ -27,7 +27,7 @@ rulingOf listed staged read colder =
     (cond (not staged) (breaks NoSuchWall)
     (cond read (breaks ReadTwice)
     (cond colder (breaks Colder)
-    (record { broken = false; why = Accepted }))))
+    (record { broken = false; why = NoSuchWall }))))
   where
     breaks : Refusal → Ruling
     breaks r = record { broken = true; why = r }

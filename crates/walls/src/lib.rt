@@ -86,7 +86,7 @@ pub fn wall_ruling(listed: bool, staged: bool, read: bool, colder: bool) -> Ruli
     }
     Ruling {
         broken: false,
-        why: Refusal::Accepted,
+        why: Refusal::NoSuchWall,
     }
 }
 

@@ -1,5 +1,5 @@
 -- What the quick reader has seen is the line, and else the careful reader says what it is. Assumes nothing.
-use mathlib.Core.Path.{_≡_, sym, ap, _∙_}
+use mathlib.Core.Path.{_≡_, refl, sym, ap, _∙_}
 use mathlib.Core.Logic.{⊎-elim}
 use native.Mathlib.Omega.{arith}
 use lib.ListN.{length}
@@ -34,7 +34,7 @@ returns c =
     let k = a .pre .1 .1 .0 (seen .before .before .before .if2 .taken) in
     rw (c .onward .ensures)
     (form-read (a .args .s .now) (a .args .p) (a .args .key .now) (a .args .n) (a .pre .1 .0) (is-good (a .args .p) (g .if1 .taken))
-    (accepted (r .result) _) (r .ensures .0 (seen .if3 .taken) ∙ rw (k .1, a .pre .1 .1 .1) (sym (keyed-line _ _ _ _ (k .0)))) (seen .if3 .taken))
+    (accepted (r .result) _) (r .ensures .0 (seen .if3 .taken) ∙ rw (k .1, a .pre .1 .1 .1) (sym (keyed-line _ _ _ _ (k .0)))) refl)
 
 careful-requires : tie.Need-careful-requires
 careful-requires c κs =
