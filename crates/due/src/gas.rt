@@ -13,8 +13,8 @@ ghost use Rattle.document.specs.Rules.{Every};
 ghost use Rattle.due.specs.Place.{Ready, After};
 ghost use Rattle.amounts.specs.Taking.{shares};
 use crate::Place;
-use crate::form;
 use crate::ranged;
+use crate::read_form;
 use crate::ruled;
 use amounts::gas_of;
 use quantity::gas::Share;
@@ -79,7 +79,7 @@ pub fn gas_line(s: &[u8], p: Place) -> GasLine
 {
     let mut numbers = [0; 13];
     let behind = quick::behind(s, p.at, b"gas=");
-    let q = form(s, p, b"gas=", behind, 13, &mut numbers);
+    let q = read_form(s, p, b"gas=", behind, 13, &mut numbers);
     let v = amounts::numbers(numbers);
     let t = gas_of(v);
     let inside = ranged(p.line, q, t.fault);

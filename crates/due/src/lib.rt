@@ -90,7 +90,7 @@ fn careful(s: &[u8], p: Place, key: &[u8], n: usize, v: &mut [i64; 13]) -> Place
 
 // Reads the form of the line that is due into an array of zeros, from the place behind its key, which is 0 where another key stands there; a
 // refused place passes through. Since `due` and `gas_line` both call it, the compiler does not copy it into every line's function.
-fn form(s: &[u8], p: Place, key: &[u8], behind: usize, n: usize, v: &mut [i64; 13]) -> Place
+fn read_form(s: &[u8], p: Place, key: &[u8], behind: usize, n: usize, v: &mut [i64; 13]) -> Place
     requires { ⌜ n ≤ 13 ⌝ }
     requires { ⌜ Ready (now s) p ⌝ }
     requires { ⌜ ((behind ≡ 0 → ⊥) → Keyed (now s) (p .at) (now key) × (behind ≡ p .at + length (now key))) ⌝ }
@@ -110,7 +110,7 @@ fn form(s: &[u8], p: Place, key: &[u8], behind: usize, n: usize, v: &mut [i64; 1
 }
 
 // The form of the line that is due, with its numbers. The key stands in the caller, so its bytes are compared with constants; and the place is
-// put together anew from its fields, for else the compiler has `form` write into this struct, which then stays in memory.
+// put together anew from its fields, for else the compiler has `read_form` write into this struct, which then stays in memory.
 pub fn due(s: &[u8], p: Place, key: &[u8], n: usize) -> LineDue
     requires { ⌜ n ≤ 13 ⌝ }
     requires { ⌜ Ready (now s) p ⌝ }
@@ -118,7 +118,7 @@ pub fn due(s: &[u8], p: Place, key: &[u8], n: usize) -> LineDue
 {
     let mut v = [0; 13];
     let behind = quick::behind(s, p.at, key);
-    let q = form(s, p, key, behind, n, &mut v);
+    let q = read_form(s, p, key, behind, n, &mut v);
     let values = amounts::numbers(v);
     LineDue {
         place: Place {

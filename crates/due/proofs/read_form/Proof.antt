@@ -9,8 +9,8 @@ use Rattle.form.proofs.Lines.{keyed-line}
 use Rattle.due.specs.Form.{readForm}
 use Rattle.due.proofs.Places.{is-good, is-bad}
 use Rattle.due.proofs.Formed.{form-read, form-passed}
-use Rattle.due.proofs.form.Statement.{statement}
-use Rattle.due.proofs.form.Tie as tie
+use Rattle.due.proofs.read_form.Statement.{statement}
+use Rattle.due.proofs.read_form.Tie as tie
 
 -- the start, from where the place is good, and this place, from where the row is read
 abbrev start : tie.Then1 → tie.Start
@@ -49,7 +49,7 @@ returns-3 c =
     let a = c .before .before .before .before .args in
     form-passed (a .s .now) (a .p) (readForm (a .key .now) (a .n)) _ (is-bad (a .p) (c .if1 .left))
 
-pub form-spec : {M : Type 1} → statement M
-form-spec =
+pub read-form-spec : {M : Type 1} → statement M
+read-form-spec =
     tie.close
     (tie.spec (λ c κs. search needs) onward-requires returns careful-requires (λ c. search needs) returns-3)
