@@ -15,6 +15,7 @@ ghost use Rattle.due.specs.Form.{FormAfter, DueAfter};
 
 // Where the reading stands: before a line, at a place of the text; or refused, with document 01's number of the refusal, the field that it names
 // and the line that was refused. That number is 0 for as long as nothing is refused.
+// So written for the compiler: docs/DECISIONS.md, "A place is four numbers".
 pub struct Place {
     pub number: usize,
     pub field: usize,
@@ -89,7 +90,8 @@ fn careful(s: &[u8], p: Place, key: &[u8], n: usize, v: &mut [i64; 13]) -> Place
 }
 
 // Reads the form of the line that is due into an array of zeros, from the place behind its key, which is 0 where another key stands there; a
-// refused place passes through. Since `due` and `gas_line` both call it, the compiler does not copy it into every line's function.
+// refused place passes through.
+// One function for every line, for the compiler: docs/DECISIONS.md, "A plain line is read in one pass, into an array that is lent".
 fn read_form(s: &[u8], p: Place, key: &[u8], behind: usize, n: usize, v: &mut [i64; 13]) -> Place
     requires { ⌜ n ≤ 13 ⌝ }
     requires { ⌜ Ready (now s) p ⌝ }
@@ -109,8 +111,7 @@ fn read_form(s: &[u8], p: Place, key: &[u8], behind: usize, n: usize, v: &mut [i
     p
 }
 
-// The form of the line that is due, with its numbers. The key stands in the caller, so its bytes are compared with constants; and the place is
-// put together anew from its fields, for else the compiler has `read_form` write into this struct, which then stays in memory.
+// The form of the line that is due, with its numbers.
 pub fn due(s: &[u8], p: Place, key: &[u8], n: usize) -> LineDue
     requires { ⌜ n ≤ 13 ⌝ }
     requires { ⌜ Ready (now s) p ⌝ }
@@ -121,6 +122,7 @@ pub fn due(s: &[u8], p: Place, key: &[u8], n: usize) -> LineDue
     let q = read_form(s, p, key, behind, n, &mut v);
     let values = amounts::numbers(v);
     LineDue {
+        // Put together anew for the compiler: docs/DECISIONS.md, "A place is four numbers".
         place: Place {
             number: q.number,
             field: q.field,

@@ -11,8 +11,8 @@ ghost use Rattle.document.specs.Reader.{readOf};
 ghost use Rattle.reader.specs.Whole.{Judged, Answers};
 
 // The firing that a sheet gives and a place that is not refused, or the first rule that the sheet breaks as the place; what the firing
-// then is stays open. There is one way through it, so that the compiler need not keep a second sheet. Of a text that is too long nothing
-// is looked at.
+// then is stays open. Of a text that is too long nothing is looked at.
+// One way through it, for the compiler: docs/DECISIONS.md, "`kiln` calls `judged` and not `read`".
 pub fn judged(s: &[u8]) -> Lines
     ensures { λ r. ⌜ Judged (readOf document (now (s .entry))) r ⌝ }
 {

@@ -99,9 +99,9 @@ pub struct Section {
     pub area: Area,
 }
 
-// What was measured at a section in a stage, if it was: `read` is 1 then, and else 0. A bool would leave a gap behind it, which 144 copies
-// would move along.
+// What was measured at a section in a stage, if it was: `read` is 1 then, and else 0.
 pub struct Reading {
+    // So written for the compiler: docs/DECISIONS.md, "A place is four numbers".
     pub read: u16,
     pub surface: SurfaceTemperature,
     pub air: NearAir,
