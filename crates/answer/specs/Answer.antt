@@ -8,7 +8,7 @@ use lib.ListN.{length}
 use Rattle.text.specs.Bytes.{bytes}
 use Rattle.text.specs.Decimal.{decimal}
 use Rattle.pen.specs.Writing.{over}
-use Rattle.sheet.specs.declared.Refusal.the-variants.{Accepted, NoRoom}
+use Rattle.sheet.specs.declared.Refusal.the-variants.{NoRoom}
 use Rattle.sheet.specs.Refusals.{number}
 use Rattle.sheet.specs.Firing.{Firing}
 use Rattle.document.specs.Reader as lines
@@ -24,7 +24,7 @@ refusedAs refusal line = record { refusal = refusal; line = line; length = 0 }
 
 -- a text for which so much room is lent: its length, or refusal 11
 abbrev pub fitted : List ℕ → ℕ → Answer
-fitted text room = cond (ltb room (length text)) (refusedAs (number NoRoom) 0) (record { refusal = number Accepted; line = 0; length = length text })
+fitted text room = cond (ltb room (length text)) (refusedAs (number NoRoom) 0) (record { refusal = 0; line = 0; length = length text })
 
 -- and the room: as it was, or with the text at its front
 abbrev pub placed : List ℕ → List ℕ → List ℕ

@@ -5,7 +5,6 @@ ghost use lib.ListN.{length};
 ghost use mir.Syntax.{w64};
 ghost use mir.Val.{SFits};
 ghost use Rattle.pen.specs.Writing.{Written};
-ghost use Rattle.sheet.specs.Refusals.{number};
 ghost use Rattle.document.specs.Rules.{Every};
 ghost use Rattle.formulas.specs.Items.{shuttle};
 ghost use Rattle.formulas.specs.Report.{keys, linesText};
@@ -23,12 +22,13 @@ pub struct Answer {
 }
 
 // A refusal, by its number and with its line.
-pub fn refused(why: Refusal, line: usize) -> Answer
+pub fn refused(number: usize, line: usize) -> Answer
+    requires { ⌜ number < 2 ^ 32 ⌝ }
     requires { ⌜ line < 2 ^ 32 ⌝ }
-    ensures { λ r. ⌜ r ≡ refusedAs (number why) line ⌝ }
+    ensures { λ r. ⌜ r ≡ refusedAs number line ⌝ }
 {
     Answer {
-        refusal: sheet::refusal_number(why) as u32,
+        refusal: number as u32,
         line: line as u32,
         length: 0,
     }
@@ -49,7 +49,8 @@ pub fn reported(figures: &[i64; LINES], room: &mut [u8]) -> Answer
             length,
         };
     }
-    refused(Refusal::NoRoom, 0)
+    let number = sheet::refusal_number(Refusal::NoRoom);
+    refused(number, 0)
 }
 
 // Puts `refused=NUMBER,LINE` and LF at the front, and answers how long it is.

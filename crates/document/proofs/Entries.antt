@@ -1,4 +1,4 @@
--- What holds of a sheet's entries, group by group: each is said back, hears a number, is in its ranges and keeps its rule. A group that two
+-- What holds of a sheet's entries, group by group: each is said back, is in its ranges and keeps its rule. A group that two
 -- sheets share is proved once, and a sheet is its groups one behind the other. Assumes nothing.
 use Prim.Native.Nat.{_≤_}
 use mathlib.Core.Path.{_≡_, refl, sym, ap, subst, _∙_}
@@ -10,7 +10,7 @@ use lib.Signed.{_<ℤ_}
 use Rattle.text.specs.Bytes.{bytes}
 use Rattle.sheet.specs.Firing.{Stage, Wall, Firing}
 use Rattle.document.specs.Schema.{Row}
-use Rattle.document.specs.Reader.{Sheet, rowsOf, Rule, Part, ruleOf, keyOf}
+use Rattle.document.specs.Reader.{Sheet, rowsOf, Part, keyOf}
 use Rattle.document.specs.Quantities.{product, ambient, heating, fuelTemperature, share, moisture, mass, sectionNumber, stageNumber, surface, nearAir, stagesMost, settersMost, partsMost, sectionsMost, wallsMost}
 use Rattle.document.specs.Tests.{sumOf, weigh, airWeights}
 use Rattle.document.specs.Entries.{Entry, partsOf}
@@ -20,7 +20,7 @@ use Rattle.document.specs.Rules.{Every, NoTwo, MaterialKeeps, GasKeeps, 
 use Rattle.document.specs.Rows.{gasOf, stageRow, stageOf, setterRow, setterOf, partRow, partOf, sectionRow, sectionOf, wallRow, wallOf, first, editionIn, stageAs, stagesIn, sectionsIn, wallAs, wallsIn, firingOf}
 use Rattle.document.specs.Limits.{In, GasIn, WareIn, WaterIn, StageIn, SetterIn, PartIn, SectionIn, WallIn, Apart}
 use Rattle.document.proofs.Judged.{is-fit}
-use Rattle.document.proofs.Rules.{Named, material-asks, gas-asks, section-asks, wall-asks}
+use Rattle.document.proofs.Rules.{material-asks, gas-asks}
 use Rattle.document.proofs.Lists.{every-with, every-join, every-split, no-two-imp}
 use Rattle.document.proofs.Above.{Same}
 use Rattle.document.proofs.Forms.{OneRow, PartForm, Keyed, distinct}
@@ -28,13 +28,9 @@ use Rattle.document.proofs.Rows.{row-back, one-back, many-back, end-bac
 use Rattle.document.proofs.Fields.{all-in, one-in, many-in, few, not-below}
 use Rattle.document.proofs.Ruled.{RuledAt, alone, unasked, sections-ruled, Readings, ordered, walls-ruled}
 
--- ONE ENTRY: what the firing of a sheet says there is what the sheet says, and its rule hears a number
-abbrev pub NamedRule : Rule → Type 0
-NamedRule rule = (seen : Sheet) (row : Row) → Named (rule seen row)
-
+-- ONE ENTRY: what the firing of a sheet says there is what the sheet says
 pub record Lawful (edition : ℤ) (e : Entry) : Type 0 where
   pub back : (s : Sheet) → editionIn s ≡ edition → PartForm (e .part) (rowsOf (keyOf (e .part)) s) → e .says (firingOf s) ≡ rowsOf (keyOf (e .part)) s
-  pub named : NamedRule (ruleOf (e .part))
 
 abbrev pub FormedAt : Sheet → Entry → Type 0
 FormedAt s e = PartForm (e .part) (rowsOf (keyOf (e .part)) s)
@@ -75,7 +71,7 @@ Silent a = Unit {0}
 -- ---- SHEET
 pub opening-laws : {edition : ℤ} → Group edition (opening ∷ []) Silent Silent
 opening-laws = record {
-  each = record { back = λ s e. one-back; named = λ s r. tt } & tt;
+  each = record { back = λ s e. one-back } & tt;
   known = λ s e k a. tt;
   asked = λ s e k. record { to = λ r. tt; from = λ r. unasked s _ (λ t r. refl) & tt };
 }
@@ -88,9 +84,9 @@ pub record HeadingIn (f : Firing) : Type 0 where
 pub heading-laws : {edition : ℤ} → Group edition heading HeadingIn Silent
 heading-laws = record {
   each =
-      record { back = λ s e. one-back; named = λ s r. tt }
-      & record { back = λ s e. one-back; named = λ s r. tt }
-      & record { back = λ s e. one-back; named = λ s r. tt }
+      record { back = λ s e. one-back }
+      & record { back = λ s e. one-back }
+      & record { back = λ s e. one-back }
       & tt;
   known = λ s e k a. record { product = one-in (k .1 .0) 0; ambient = one-in (k .1 .1 .0) 0 };
   asked = λ s e k. record { to = λ r. tt; from = λ r. unasked s _ (λ t r. refl) & unasked s _ (λ t r. refl) & unasked s _ (λ t r. refl) & tt };
@@ -114,7 +110,7 @@ gas-in {rows = rows} o k =
 
 pub fuelling-laws : {edition : ℤ} → Group edition fuelling FuellingIn (λ s. Every GasKeeps (rowsOf (bytes "gas") s))
 fuelling-laws = record {
-  each = record { back = λ s e. one-back; named = λ s r. tt } & record { back = λ s e. one-back; named = λ s r. gas-asks s r .named } & tt;
+  each = record { back = λ s e. one-back } & record { back = λ s e. one-back } & tt;
   known = λ s e k a. record { heating = one-in (k .0) 0; temperature = one-in (k .0) 1; gas = gas-in (k .1 .0) a };
   asked = λ s e k. let gas = alone s _ gas-asks in record { to = λ r. gas .to (r .1 .0); from = λ r. unasked s _ (λ t r. refl) & gas .from r & tt };
 }
@@ -129,10 +125,10 @@ pub record DryingIn (f : Firing) : Type 0 where
 pub drying-laws : {edition : ℤ} → Group edition drying DryingIn (λ s. Every (MaterialKeeps 3) (rowsOf (bytes "ware") s))
 drying-laws = record {
   each =
-      record { back = λ s e. one-back; named = λ s r. tt }
-      & record { back = λ s e. one-back; named = λ s r. material-asks 3 s r .named }
-      & record { back = λ s e. one-back; named = λ s r. tt }
-      & record { back = λ s e. one-back; named = λ s r. tt }
+      record { back = λ s e. one-back }
+      & record { back = λ s e. one-back }
+      & record { back = λ s e. one-back }
+      & record { back = λ s e. one-back }
       & tt;
   known = λ s e k a.
       let ware = one-in (k .1 .0) in
@@ -158,7 +154,7 @@ pub record StagingIn (f : Firing) : Type 0 where
 
 pub staging-laws : {edition : ℤ} → ReadAs edition stageAs stageOf → Group edition staging StagingIn Silent
 staging-laws {edition} read = record {
-  each = record { back = λ s e. many-back stageRow (stageAs (editionIn s)) (λ r h. ap stageRow (read s e r) ∙ row-back stageLine r h); named = λ s r. tt } & tt;
+  each = record { back = λ s e. many-back stageRow (stageAs (editionIn s)) (λ r h. ap stageRow (read s e r) ∙ row-back stageLine r h) } & tt;
   known = λ s e k a. record {
     each = many-in StageIn (stageAs (editionIn s)) (k .0) (λ r z.
         subst (λ (x : Stage). StageIn x) (sym (read s e r)) (record { gas = z 0; excess = z 1; flue = z 2; co = z 3; minutes = z 4 }));
@@ -181,8 +177,8 @@ pub record LoadingKeeps (s : Sheet) : Type 0 where
 pub loading-laws : {edition : ℤ} → Group edition loading LoadingIn LoadingKeeps
 loading-laws = record {
   each =
-      record { back = λ s e. many-back setterRow setterOf (row-back setterLine); named = λ s r. material-asks 2 s r .named }
-      & record { back = λ s e. many-back partRow partOf (row-back partLine); named = λ s r. material-asks 1 s r .named }
+      record { back = λ s e. many-back setterRow setterOf (row-back setterLine) }
+      & record { back = λ s e. many-back partRow partOf (row-back partLine) }
       & tt;
   known = λ s e k a. record {
     setters = many-in SetterIn setterOf (k .0) (λ r z. record { mass = z 0; entry = z 1; stuff = record { material = z 2; c = z 3 } });
@@ -236,10 +232,9 @@ walls-in s r fields =
 pub surfaces-laws : {edition : ℤ} → ReadAs edition wallAs wallOf → ordered (allLines edition) ≡ true → Group edition surfaces SurfacesIn SurfacesKeep
 surfaces-laws {edition} read o = record {
   each =
-      record { back = λ s e. many-back sectionRow sectionOf (row-back sectionLine); named = λ s r. section-asks (sectionsIn s) (sectionOf r) .named }
+      record { back = λ s e. many-back sectionRow sectionOf (row-back sectionLine) }
       & record {
         back = λ s e. many-back wallRow (wallAs (editionIn s)) (λ r h. ap wallRow (read s e r) ∙ row-back wallLine r h);
-        named = λ s r. wall-asks (stagesIn s) (sectionsIn s) (wallsIn s) (wallAs (editionIn s) r) .named;
       }
       & tt;
   known = λ s e k a. record {
@@ -262,7 +257,7 @@ surfaces-laws {edition} read o = record {
 -- ---- END
 pub ending-laws : {edition : ℤ} → Group edition ending Silent Silent
 ending-laws = record {
-  each = record { back = λ s e. end-back; named = λ s r. tt } & tt;
+  each = record { back = λ s e. end-back } & tt;
   known = λ s e k a. tt;
   asked = λ s e k. record { to = λ r. tt; from = λ r. unasked s _ (λ t r. refl) & tt };
 }

@@ -1,6 +1,6 @@
--- Each rule's test says what the plain rule says: a test that tells whether P, and then a refusal that asks for P, and has a number.
+-- Each rule's test says what the plain rule says: a test that tells whether P, and then a refusal that asks for P.
 -- Assumes nothing.
-use Prim.Native.Nat.{ℕ, zero, suc, _+_, _≤_, _<_}
+use Prim.Native.Nat.{ℕ, zero, suc, _+_, _≤_}
 use mathlib.Core.Path.{_≡_, refl, sym, ap}
 use mathlib.Core.List.{List, [], _∷_, map}
 use mathlib.Core.Logic.{_⊎_, inl, inr, ⊎-elim}
@@ -8,13 +8,12 @@ use mathlib.Core.Option.{Option, none, some}
 use mathlib.Core.Bool.{Bool, true, false, _&&_, _||_, not}
 use native.Mathlib.Omega.{arith}
 use lib.ListN.{length}
-use lib.Dec.{T, leb, eqb, lit<}
+use lib.Dec.{T, leb, eqb}
 use lib.IntN.{ℤ, pos, negsuc}
 use lib.Signed.{leZ, ltZ, _≤ℤ_, _<ℤ_}
 use borrow.Author.Tests.{leb-true, le-leb, eqb-true, eqb-false}
 use Rattle.sheet.specs.declared.Refusal.{Refusal}
 use Rattle.sheet.specs.declared.Refusal.the-variants.{Material, Shares, SectionTwice, NoSuchWall, ReadTwice, Missing, Colder, GasTotal}
-use Rattle.sheet.specs.Refusals.{number}
 use Rattle.sheet.specs.Shown.{same}
 use Rattle.sheet.specs.Firing.{Stage, Section, Wall}
 use Rattle.document.specs.Schema.{Row, at, within}
@@ -103,27 +102,22 @@ module _ {f : ℤ → Bool} {P : ℤ → Type 0} (h : (z : ℤ) → Tests (f z) 
   tests-counted : (k : ℕ) → Tests (all f (counted k)) ((j : ℕ) → 1 ≤ j → j ≤ k → P (pos j))
   tests-counted k = record { yes = counted-all k; back = all-counted k }
 
--- A RULE THAT ASKS FOR P, and hears a number of document 01 else, never 0
-abbrev pub Named : Option Refusal → Type 0
-Named none = Unit {0}
-Named (some r) = 0 < number r
-
+-- A RULE THAT ASKS FOR P
 pub record Asks (o : Option Refusal) (P : Type 0) : Type 0 where
   pub to : o ≡ none → P
   pub from : P → o ≡ none
-  pub named : Named o
 
-asks-not : {t : Bool} {P : Type 0} (r : Refusal) → 0 < number r → Tests t P → Asks (when t r) (¬ P)
-asks-not {t = true} r m h = record { to = λ e. clash cc; from = λ n. absurd (n (h .yes refl)); named = m }
-asks-not {t = false} r m h = record { to = λ e p. let z = h .back p in clash cc; from = λ n. refl; named = tt }
+asks-not : {t : Bool} {P : Type 0} (r : Refusal) → Tests t P → Asks (when t r) (¬ P)
+asks-not {t = true} r h = record { to = λ e. clash cc; from = λ n. absurd (n (h .yes refl)) }
+asks-not {t = false} r h = record { to = λ e p. let z = h .back p in clash cc; from = λ n. refl }
 
-asks : {t : Bool} {P : Type 0} (r : Refusal) → 0 < number r → Tests t P → Asks (when (not t) r) P
-asks {t = true} r m h = record { to = λ e. h .yes refl; from = λ p. refl; named = tt }
-asks {t = false} r m h = record { to = λ e. clash cc; from = λ p. let z = h .back p in clash cc; named = m }
+asks : {t : Bool} {P : Type 0} (r : Refusal) → Tests t P → Asks (when (not t) r) P
+asks {t = true} r h = record { to = λ e. h .yes refl; from = λ p. refl }
+asks {t = false} r h = record { to = λ e. clash cc; from = λ p. let z = h .back p in clash cc }
 
 asks-else : {a b : Option Refusal} {P Q : Type 0} → Asks a P → Asks b Q → Asks (a else b) (P × Q)
-asks-else {a = none} x y = record { to = λ e. (x .to refl, y .to e); from = λ h. y .from (h .1); named = y .named }
-asks-else {a = some r} x y = record { to = λ e. clash cc; from = λ h. x .from (h .0); named = x .named }
+asks-else {a = none} x y = record { to = λ e. (x .to refl, y .to e); from = λ h. y .from (h .1) }
+asks-else {a = some r} x y = record { to = λ e. clash cc; from = λ h. x .from (h .0) }
 
 -- THE RULES
 pub material-asks : (i : ℕ) (seen : Sheet) (row : Row) → Asks (material-rule i seen row) (MaterialKeeps i row)
@@ -133,24 +127,22 @@ material-asks i seen row = here (same (pos 0) (at row i)) (same (pos 0) (at row 
     here true true x y = record {
       to = λ e. clash cc;
       from = λ h. absurd (⊎-elim (λ p. p .1 (sym (y .yes refl))) (λ p. p .0 (sym (x .yes refl))) h);
-      named = lit< tt;
     }
-    here true false x y = record { to = λ e. inl (sym (x .yes refl), λ p. let z = y .back (sym p) in clash cc); from = λ h. refl; named = tt }
-    here false true x y = record { to = λ e. inr (λ p. let z = x .back (sym p) in clash cc, sym (y .yes refl)); from = λ h. refl; named = tt }
+    here true false x y = record { to = λ e. inl (sym (x .yes refl), λ p. let z = y .back (sym p) in clash cc); from = λ h. refl }
+    here false true x y = record { to = λ e. inr (λ p. let z = x .back (sym p) in clash cc, sym (y .yes refl)); from = λ h. refl }
     here false false x y = record {
       to = λ e. clash cc;
       from = λ h. ⊎-elim (λ p. let z = x .back (sym (p .0)) in clash cc) (λ p. let z = y .back (sym (p .1)) in clash cc) h;
-      named = lit< tt;
     }
 
 pub gas-asks : (seen : Sheet) (row : Row) → Asks (gas-rule seen row) (GasKeeps row)
-gas-asks seen row = asks Shares (lit< tt) (tests-and (tests-same (sumOf (row .numbers)) (pos 10000)) (tests-lt (pos 0) (weigh airWeights (row .numbers))))
+gas-asks seen row = asks Shares (tests-and (tests-same (sumOf (row .numbers)) (pos 10000)) (tests-lt (pos 0) (weigh airWeights (row .numbers))))
 
 pub listed-test : (sections : List Section) (number : ℤ) → Tests (isListed sections number) (Some (λ x. x .number ≡ number) sections)
 listed-test sections number = tests-any (λ x. tests-same (x .number) number) sections
 
 pub section-asks : (above : List Section) (x : Section) → Asks (sectionFault above x) (¬ Some (SameNumber x) above)
-section-asks above x = asks-not SectionTwice (lit< tt) (listed-test above (x .number))
+section-asks above x = asks-not SectionTwice (listed-test above (x .number))
 
 pub read-test : (walls : List Wall) (section stage : ℤ) → Tests (isRead walls section stage) (IsRead walls section stage)
 read-test walls section stage = tests-any (λ w. tests-and (tests-same (w .section) section) (tests-same (w .stage) stage)) walls
@@ -175,8 +167,8 @@ module _ (stages : List Stage) (sections : List Section) (above : List Wall) (w 
 
   pub wall-asks : Asks (wallFault stages sections above w) (WallKeeps stages sections above w)
   wall-asks =
-      asks-else (asks NoSuchWall (lit< tt) listed)
-      (asks-else (asks-not NoSuchWall (lit< tt) beyond) (asks-else (asks-not ReadTwice (lit< tt) again) (asks-not Colder (lit< tt) colder)))
+      asks-else (asks NoSuchWall listed)
+      (asks-else (asks-not NoSuchWall beyond) (asks-else (asks-not ReadTwice again) (asks-not Colder colder)))
 
   pub unlisted-heard : ¬ Listed sections w → wallFault stages sections above w ≡ some NoSuchWall
   unlisted-heard n = rw (tests-no listed n)
@@ -199,7 +191,7 @@ module _ (stages : List Stage) (sections : List Section) (walls : List Wall) whe
   all-read-test = tests-all (λ x. tests-counted (read-test walls (x .number)) (length stages)) sections
 
   pub whole-asks : Asks (wholeFault stages sections walls) (TotalKeeps stages × AllRead stages sections walls)
-  whole-asks = asks-else (asks GasTotal (lit< tt) total-test) (asks Missing (lit< tt) all-read-test)
+  whole-asks = asks-else (asks GasTotal total-test) (asks Missing all-read-test)
 
   pub total-heard : ¬ TotalKeeps stages → wholeFault stages sections walls ≡ some GasTotal
   total-heard n = rw (tests-no total-test n)

@@ -9,19 +9,19 @@ use native.Mathlib.Omega.{arith}
 use lib.ListN.{length, getD, drop, length-append, length-drop, List·getD-map}
 use lib.Seq.{sets, sets-eq, append-snoc, getD-at, drop-drop}
 use lib.IntN.{ℤ, pos}
-use borrow.Author.Tests.{ltb-true}
+use borrow.Author.Tests.{ne-eqb, ltb-true}
 use Rattle.limits.specs.declared.Number.{Number}
 use Rattle.text.specs.Scanning.{upTo}
-use Rattle.sheet.specs.declared.Refusal.the-variants.{Accepted}
+use Rattle.sheet.proofs.Refusals.{numbered}
 use Rattle.document.specs.Schema.{Row, Judged, refused, values, formedBy}
-use Rattle.document.specs.Reader.{judged}
-use Rattle.form.specs.declared.Line.{Line}
-use Rattle.form.specs.Line.{zeros, handed, lineAt}
+use Rattle.document.specs.Reader.{Reader, judged}
+use Rattle.form.specs.declared.Formed.{Formed}
+use Rattle.form.specs.Formed.{zeros, handed, lineAt}
 use Rattle.due.specs.declared.Place.{Place}
-use Rattle.due.specs.Place.{good, goingOn, refusedAt, Fair, Ready, Meets, After}
+use Rattle.due.specs.Place.{good, goingOn, Fair, Ready, Meets, After}
 use Rattle.due.specs.Taking.{plainNumbers, from}
 use Rattle.due.specs.Form.{readForm, FormAfter}
-use Rattle.due.proofs.Places.{not-both, refused-bad, after-weaker}
+use Rattle.due.proofs.Places.{not-both, after-weaker}
 use Rattle.due.proofs.Lines.{in-form}
 
 -- ---- the numbers of a row, taken out of the array that it fills from the front
@@ -52,26 +52,29 @@ module _ (s : List ℕ) (p : Place) (key : List ℕ) (n : ℕ) (r : Ready s p) (
   abbrev text : List ℕ
   text = drop (p .at) s
 
-  -- a line that is handed out as refused is refused
-  refused-cases : (P : Row → Type 0) (j : Judged) → formedBy key n text ≡ j → handed (p .at) j .next ≡ 0
-      → Meets s (judged j (λ row. none) (p .line) text) (refusedAt (handed (p .at) j .refusal) (p .line)) P
-  refused-cases P (refused x) q e = refl
-  refused-cases P (values row size) q e = let f = in-form key n text row size q in absurd (omega (arith, f .some))
+  -- the place of a line that is handed out as refused
+  abbrev pub refusedBy : Formed → Place
+  refusedBy l = record { number = l .number; field = l .field; line = p .line; at = 0 }
 
-  pub form-refused : (l : Line) (P : Row → Type 0) → l ≡ lineAt s (p .at) key n → l .next ≡ 0 → After s p (readForm key n) (refusedAt (l .refusal) (p .line)) P
+  refused-cases : (P : Row → Type 0) (j : Judged) → ¬ (handed (p .at) j .number ≡ 0)
+      → Meets s (judged j (λ row. none) (p .line) text) (refusedBy (handed (p .at) j)) P
+  refused-cases P (refused x) z = refl
+  refused-cases P (values row size) z = absurd (z refl)
+
+  pub form-refused : (l : Formed) (P : Row → Type 0) → l ≡ lineAt s (p .at) key n → ¬ (l .number ≡ 0) → After s p (readForm key n) (refusedBy l) P
   unfolding lineAt
   form-refused l P e z = record {
-    reads = λ h. rw e (refused-cases P (formedBy key n text) refl (sym (ap (λ (x : Line). x .next) e) ∙ z));
+    reads = λ h. rw e (refused-cases P (formedBy key n text) (λ x. z (ap (λ (y : Formed). y .number) e ∙ x)));
     passes = λ h. not-both (good p) yes h;
-    fair = λ h. not-both (good (refusedAt (l .refusal) (p .line))) h (refused-bad (l .refusal) (p .line));
+    fair = λ h. not-both (good (refusedBy l)) h (ne-eqb (l .number) 0 z);
   }
 
   -- one that is handed out with numbers is read, and they are its row's
-  read-cases : (j : Judged) → formedBy key n text ≡ j → (handed (p .at) j .next ≡ 0 → ⊥)
+  read-cases : (j : Judged) → formedBy key n text ≡ j → handed (p .at) j .number ≡ 0
       → Meets s (judged j (λ row. none) (p .line) text) (goingOn (p .line) (handed (p .at) j .next))
       (λ row. (handed (p .at) j .values ≡ sets zeros 0 (row .numbers)) × (length (row .numbers) ≡ n))
       × Fair s (goingOn (p .line) (handed (p .at) j .next))
-  read-cases (refused x) q e = absurd (e refl)
+  read-cases (refused x) q e = absurd (omega (arith, e, numbered x .some))
   read-cases (values row size) q e =
       let f = in-form key n text row size q in
       let g = r .fair yes in
@@ -80,10 +83,10 @@ module _ (s : List ℕ) (p : Place) (key : List ℕ) (n : ℕ) (r : Ready s p) (
         record { field = refl; line = omega (arith, f .some, g .line); within = omega (arith, f .long, b, g .within, length-drop (p .at) s) },
       )
 
-  pub form-read : (l : Line) → l ≡ lineAt s (p .at) key n → (l .next ≡ 0 → ⊥) → FormAfter s p key n (goingOn (p .line) (l .next)) (l .values)
+  pub form-read : (l : Formed) → l ≡ lineAt s (p .at) key n → l .number ≡ 0 → FormAfter s p key n (goingOn (p .line) (l .next)) (l .values)
   unfolding lineAt
   form-read l e z =
-      let c = read-cases (formedBy key n text) refl (λ x. z (ap (λ (y : Line). y .next) e ∙ x)) in
+      let c = read-cases (formedBy key n text) refl (sym (ap (λ (y : Formed). y .number) e) ∙ z) in
       rw e (record { reads = λ x. c .0; passes = λ x. not-both (good p) yes x; fair = λ x. c .1 })
 
 -- the numbers taken out of the array
@@ -94,5 +97,5 @@ due-form s p key n q v w h e a =
     after-weaker s p q (readForm key n) (λ row. (v ≡ sets zeros 0 (row .numbers)) × (length (row .numbers) ≡ n)) (λ row. from 0 n w ≡ row .numbers)
     (λ row g. from-row w (row .numbers) n h (g .1) (e ∙ g .0)) a
 
-pub form-passed : {A : Type 0} (s : List ℕ) (p : Place) (m : Rattle.document.specs.Reader.Reader A) (P : A → Type 0) → good p ≡ false → After s p m p P
+pub form-passed : {A : Type 0} (s : List ℕ) (p : Place) (m : Reader A) (P : A → Type 0) → good p ≡ false → After s p m p P
 form-passed s p m P e = record { reads = λ h. not-both (good p) h e; passes = λ h. refl; fair = λ h. not-both (good p) h e }

@@ -18,7 +18,7 @@ use Rattle.document.specs.Schema as schema
 use Rattle.document.specs.Tests.{when, _else_}
 use Rattle.document.specs.Reader.{stopped, got, judged, readLine}
 use Rattle.document.proofs.Cases.{unless-values}
-use Rattle.form.proofs.Judgement.{numbers-many}
+use Rattle.form.proofs.Pieces.{numbers-many}
 use Rattle.due.specs.declared.Place.{Place}
 use Rattle.due.specs.Place.{good, refusedAt, Fair, Stands, Meets, After, ranged, ruled}
 use Rattle.limits.specs.declared.Number.{Number}

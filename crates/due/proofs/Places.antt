@@ -7,60 +7,25 @@ use native.Mathlib.Omega.{arith}
 use lib.ListN.{drop}
 use borrow.Author.Tests.{eq-eqb, ne-eqb}
 use Rattle.sheet.specs.declared.Refusal.{Refusal}
-use Rattle.sheet.specs.declared.Refusal.the-variants.{Accepted, TooLong, NoLineFeed, WrongKey, WrongCount, NotANumber, Surplus, Outside, Material, Shares, SectionTwice, NoSuchWall, ReadTwice, Missing, Colder, GasTotal, NoRoom}
+use Rattle.sheet.specs.Refusals.{number}
+use Rattle.sheet.proofs.Refusals.{numbered}
 use Rattle.document.specs.Reader.{Read, stopped, got, Reader, andThen, return}
 use Rattle.due.specs.declared.Place.{Place}
-use Rattle.due.specs.Place.{good, reason, refusedAt, Fair, Ready, Meets, After}
+use Rattle.due.specs.Place.{good, refusedAt, Fair, Ready, Meets, After}
 
 pub not-both : {X : Type 0} (t : Bool) → t ≡ true → t ≡ false → X
 not-both t p q = let z : _≡_ {A = ℕ} 0 1 = cc in absurd (omega arith)
 
 -- as the code asks for it
-pub is-good : (p : Place) → p .kind ≡ 0 → good p ≡ true
-is-good p e = eq-eqb (p .kind) 0 e
+pub is-good : (p : Place) → p .number ≡ 0 → good p ≡ true
+is-good p e = eq-eqb (p .number) 0 e
 
-pub is-bad : (p : Place) → (p .kind ≡ 0 → ⊥) → good p ≡ false
-is-bad p f = ne-eqb (p .kind) 0 f
+pub is-bad : (p : Place) → (p .number ≡ 0 → ⊥) → good p ≡ false
+is-bad p f = ne-eqb (p .number) 0 f
 
 -- a refused place is not good
 pub refused-bad : (r : Refusal) (n : ℕ) → good (refusedAt r n) ≡ false
-refused-bad Accepted n = refl
-refused-bad TooLong n = refl
-refused-bad NoLineFeed n = refl
-refused-bad WrongKey n = refl
-refused-bad WrongCount n = refl
-refused-bad (NotANumber i) n = refl
-refused-bad Surplus n = refl
-refused-bad (Outside i) n = refl
-refused-bad (Material i) n = refl
-refused-bad Shares n = refl
-refused-bad SectionTwice n = refl
-refused-bad NoSuchWall n = refl
-refused-bad ReadTwice n = refl
-refused-bad Missing n = refl
-refused-bad Colder n = refl
-refused-bad GasTotal n = refl
-refused-bad NoRoom n = refl
-
--- and has its reason
-pub refused-why : (r : Refusal) (n : ℕ) → reason (refusedAt r n) ≡ r
-refused-why Accepted n = refl
-refused-why TooLong n = refl
-refused-why NoLineFeed n = refl
-refused-why WrongKey n = refl
-refused-why WrongCount n = refl
-refused-why (NotANumber i) n = refl
-refused-why Surplus n = refl
-refused-why (Outside i) n = refl
-refused-why (Material i) n = refl
-refused-why Shares n = refl
-refused-why SectionTwice n = refl
-refused-why NoSuchWall n = refl
-refused-why ReadTwice n = refl
-refused-why Missing n = refl
-refused-why Colder n = refl
-refused-why GasTotal n = refl
-refused-why NoRoom n = refl
+refused-bad r n = ne-eqb (number r) 0 (λ e. omega (arith, numbered r .some))
 
 -- what passes a refused place on ends refused
 pub refused-on : (r : Refusal) (n : ℕ) {q q′ : Place} → q ≡ refusedAt r n → (good q ≡ false → q′ ≡ q) → q′ ≡ refusedAt r n

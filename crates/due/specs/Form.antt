@@ -1,4 +1,4 @@
--- Reading the form of a line alone: what `readLine` of crate lines does before it looks at ranges and rules.
+-- Reading the form of a line alone: what `readLine` of crate document does before it looks at ranges and rules.
 use Prim.Native.Nat.{ℕ}
 use mathlib.Core.Path.{_≡_}
 use mathlib.Core.List.{List, _++_}
@@ -7,7 +7,7 @@ use lib.ListN.{length}
 use lib.Seq.{sets}
 use lib.IntN.{ℤ}
 use Rattle.text.specs.Bytes.{bytes}
-use Rattle.form.specs.Line.{zeros}
+use Rattle.form.specs.Formed.{zeros}
 use Rattle.document.specs.Schema.{Line, Row, formedBy}
 use Rattle.document.specs.Reader.{Reader, judged}
 use Rattle.due.specs.declared.Place.{Place}

@@ -6,47 +6,21 @@ use mathlib.Core.List.{List}
 use lib.ListN.{length, drop}
 use lib.Dec.{eqb}
 use Rattle.sheet.specs.declared.Refusal.{Refusal}
-use Rattle.sheet.specs.declared.Refusal.the-variants.{Accepted, TooLong, NoLineFeed, WrongKey, WrongCount, NotANumber, Surplus, Outside, Material, Shares, SectionTwice, NoSuchWall, ReadTwice, Missing, Colder, GasTotal, NoRoom}
-use Rattle.sheet.specs.Refusals.{field}
+use Rattle.sheet.specs.declared.Refusal.the-variants.{Outside}
+use Rattle.sheet.specs.Refusals.{number, field}
 use Rattle.document.specs.Reader.{Read, stopped, got, Reader}
 use Rattle.due.specs.declared.Place.{Place}
 
--- a refusal as two numbers; 0 is the kind of none
-abbrev pub kind : Refusal → ℕ
-kind Accepted = 1
-kind TooLong = 2
-kind NoLineFeed = 3
-kind WrongKey = 4
-kind WrongCount = 5
-kind (NotANumber i) = 6
-kind Surplus = 7
-kind (Outside i) = 8
-kind (Material i) = 9
-kind Shares = 10
-kind SectionTwice = 11
-kind NoSuchWall = 12
-kind ReadTwice = 13
-kind Missing = 14
-kind Colder = 15
-kind GasTotal = 16
-kind NoRoom = 17
-
-abbrev pub refusalOf : ℕ → ℕ → Refusal
-refusalOf k i =
-    cond (eqb k 2) TooLong (cond (eqb k 3) NoLineFeed (cond (eqb k 4) WrongKey (cond (eqb k 5) WrongCount (cond (eqb k 6) (NotANumber i) (cond (eqb k 7) Surplus (cond (eqb k 8) (Outside i) (cond (eqb k 9) (Material i) (cond (eqb k 10) Shares (cond (eqb k 11) SectionTwice (cond (eqb k 12) NoSuchWall (cond (eqb k 13) ReadTwice (cond (eqb k 14) Missing (cond (eqb k 15) Colder (cond (eqb k 16) GasTotal (cond (eqb k 17) NoRoom Accepted)))))))))))))))
-
+-- nothing is refused: document 01 has no refusal 0
 abbrev pub good : Place → Bool
-good p = eqb (p .kind) 0
-
-abbrev pub reason : Place → Refusal
-reason p = refusalOf (p .kind) (p .field)
+good p = eqb (p .number) 0
 
 abbrev pub refusedAt : Refusal → ℕ → Place
-refusedAt r n = record { kind = kind r; field = field r; line = n; at = 0 }
+refusedAt r n = record { number = number r; field = field r; line = n; at = 0 }
 
 -- the place before the line after this one
 abbrev pub goingOn : ℕ → ℕ → Place
-goingOn n at = record { kind = 0; field = 0; line = n + 1; at = at }
+goingOn n at = record { number = 0; field = 0; line = n + 1; at = at }
 
 -- a place that is not refused: every line above has at least a byte, so its number fits wherever a place does
 pub record Fair (s : List ℕ) (p : Place) : Type 0 where

@@ -1,5 +1,4 @@
 // What is due at a place of the sheet: the form of a line, its ranges and its rule, and the place after it, or the refusal.
-pub mod coded;
 pub mod stuff;
 
 use limits::Number;
@@ -8,16 +7,17 @@ ghost use mathlib.Core.Path.{_≡_};
 ghost use mathlib.Core.Bool.{true};
 ghost use Prim.Native.Nat.{_+_, _≤_};
 ghost use lib.ListN.{length};
-ghost use Rattle.form.specs.Line.{zeros};
+ghost use Rattle.form.specs.Formed.{zeros};
 ghost use Rattle.form.specs.Fields.{Keyed};
 ghost use Rattle.due.specs.Place.{good, goingOn, refusedAt, Ready, ranged as rangedPlace, ruled as ruledPlace};
 ghost use Rattle.due.specs.Form.{FormAfter, DueAfter};
 ghost use Rattle.due.specs.Taking.{plainNumbers};
 
-// Where the reading stands: before the line with a number, at a place of the text; or refused, with the line that was. The kind is 0 for as
-// long as nothing is refused (`coded`).
+// Where the reading stands: before a line, at a place of the text; or refused, with document 01's number of the refusal, the field that it names
+// and the line that was refused. That number is 0 for as long as nothing is refused.
+// So written for the compiler: docs/DECISIONS.md, "A place is four numbers".
 pub struct Place {
-    pub kind: usize,
+    pub number: usize,
     pub field: usize,
     pub line: usize,
     pub at: usize,
@@ -30,12 +30,12 @@ pub struct LineDue {
 }
 
 // The place of a refusal.
-fn refused(refusal: Refusal, line: usize) -> Place
-    ensures { λ r. ⌜ r ≡ refusedAt refusal line ⌝ }
+pub fn refused(why: Refusal, line: usize) -> Place
+    ensures { λ r. ⌜ r ≡ refusedAt why line ⌝ }
 {
     Place {
-        kind: coded::kind_of(refusal),
-        field: coded::field_of(refusal),
+        number: sheet::refusal_number(why),
+        field: sheet::refusal_field(why),
         line,
         at: 0,
     }
@@ -47,7 +47,7 @@ fn onward(line: usize, at: usize) -> Place
     ensures { λ r. ⌜ r ≡ goingOn line at ⌝ }
 {
     Place {
-        kind: 0,
+        number: 0,
         field: 0,
         line: line + 1,
         at,
@@ -76,26 +76,37 @@ fn careful(s: &[u8], p: Place, key: &[u8], n: usize, v: &mut [i64; 13]) -> Place
 {
     let l = form::judged(s, p.at, key, n);
     let line = p.line;
-    let next = l.next;
-    if next == 0 {
-        let why = l.refusal;
-        return refused(why, line);
+    if l.number != 0 {
+        return Place {
+            number: l.number,
+            field: l.field,
+            line,
+            at: 0,
+        };
     }
     let values = l.values;
     lay(values, v);
-    onward(line, next)
+    onward(line, l.next)
 }
 
 // Reads the form of the line that is due into an array of zeros, from the place behind its key, which is 0 where another key stands there; a
-// refused place passes through. Since `due` and `gas_line` both call it, the compiler does not copy it into every line's function.
-pub fn form(s: &[u8], p: Place, key: &[u8], behind: usize, n: usize, v: &mut [i64; 13]) -> Place
+// refused place passes through.
+// One function for every line, for the compiler: docs/DECISIONS.md, "A plain line is read in one pass, into an array that is lent".
+pub fn read_form(
+    s: &[u8],
+    p: Place,
+    key: &[u8],
+    behind: usize,
+    n: usize,
+    v: &mut [i64; 13],
+) -> Place
     requires { ⌜ n ≤ 13 ⌝ }
     requires { ⌜ Ready (now s) p ⌝ }
     requires { ⌜ ((behind ≡ 0 → ⊥) → Keyed (now s) (p .at) (now key) × (behind ≡ p .at + length (now key))) ⌝ }
     requires { ⌜ now v ≡ zeros ⌝ }
     ensures { λ r. ⌜ FormAfter (now (s .entry)) p (now (key .entry)) n r (now (v .exit)) ⌝ }
 {
-    if p.kind == 0 {
+    if p.number == 0 {
         if behind != 0 {
             let next = quick::row(s, behind, n, v);
             if next != 0 {
@@ -120,8 +131,7 @@ pub fn numbers(v: [i64; 13]) -> [Number; 13]
     r
 }
 
-// The form of the line that is due, with its numbers. The key stands in the caller, so its bytes are compared with constants; and the place is
-// put together anew from its fields, for else the compiler has `form` write into this struct, which then stays in memory.
+// The form of the line that is due, with its numbers.
 pub fn due(s: &[u8], p: Place, key: &[u8], n: usize) -> LineDue
     requires { ⌜ n ≤ 13 ⌝ }
     requires { ⌜ Ready (now s) p ⌝ }
@@ -129,11 +139,12 @@ pub fn due(s: &[u8], p: Place, key: &[u8], n: usize) -> LineDue
 {
     let mut v = [0; 13];
     let behind = quick::behind(s, p.at, key);
-    let q = form(s, p, key, behind, n, &mut v);
+    let q = read_form(s, p, key, behind, n, &mut v);
     let values = numbers(v);
     LineDue {
+        // Put together anew for the compiler: docs/DECISIONS.md, "A place is four numbers".
         place: Place {
-            kind: q.kind,
+            number: q.number,
             field: q.field,
             line: q.line,
             at: q.at,
@@ -146,7 +157,7 @@ pub fn due(s: &[u8], p: Place, key: &[u8], n: usize) -> LineDue
 pub fn ranged(line: usize, q: Place, fault: usize) -> Place
     ensures { λ r. ⌜ r ≡ rangedPlace line q fault ⌝ }
 {
-    if q.kind == 0 {
+    if q.number == 0 {
         if fault != 0 {
             return refused(Refusal::Outside(fault), line);
         }
@@ -158,7 +169,7 @@ pub fn ranged(line: usize, q: Place, fault: usize) -> Place
 pub fn ruled(line: usize, q: Place, broken: bool, why: Refusal) -> Place
     ensures { λ r. ⌜ r ≡ ruledPlace line q broken why ⌝ }
 {
-    if q.kind == 0 {
+    if q.number == 0 {
         if broken {
             return refused(why, line);
         }

@@ -1,4 +1,3 @@
 pub mod Pieces
 pub mod Steps
 pub mod Lines
-pub mod Judgement

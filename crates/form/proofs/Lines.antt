@@ -14,7 +14,7 @@ use Rattle.text.specs.Scanning.{upTo, find, count, begins}
 use Rattle.text.proofs.Scanning.{upTo-clear, count-append, found, piece, begins-key, key-begins}
 use Rattle.sheet.specs.declared.Refusal.the-variants.{NoLineFeed, WrongKey, WrongCount, NotANumber}
 use Rattle.document.specs.Schema.{refused, values, plain, unless, pieces, Numbers, none-at, all-are, onNumbers, numbersOf, formedBy}
-use Rattle.form.specs.Line.{zeros, handed, lineAt}
+use Rattle.form.specs.Formed.{zeros, handed, lineAt}
 use Rattle.form.specs.Fields.{accepted, fieldsOf, fieldsAt, Keyed}
 use Rattle.form.proofs.Pieces.{upTo-past}
 

@@ -1,4 +1,4 @@
--- The pieces of a line: the text before the first comma is the first, and those behind it are the others.
+-- The pieces of a line: the text before the first comma is the first, and those behind it are the others; and the numbers that they are.
 -- Assumes nothing.
 use mathlib.Core.Path.{_≡_, refl, sym, ap, _∙_}
 use mathlib.Core.Bool.{Bool, true, false, cond}
@@ -6,11 +6,15 @@ use mathlib.Core.List.{List, [], _∷_, _++_}
 use Prim.Native.Nat.{ℕ, suc, _+_, _≤_, _<_}
 use native.Mathlib.Omega.{arith}
 use lib.ListN.{length, drop}
+use lib.IntN.{ℤ}
 use lib.Dec.{leb, eqb}
 use borrow.Author.Tests.{le-leb, leb-true, leb-false}
+use Rattle.text.specs.declared.Num.{Num}
+use Rattle.text.specs.declared.Num.the-variants as num
+use Rattle.text.specs.Number.{numberOf}
 use Rattle.text.specs.Scanning.{upTo, find, count}
 use Rattle.text.proofs.Scanning.{upTo-clear, find-most, found, not-found}
-use Rattle.document.specs.Schema.{pieces}
+use Rattle.document.specs.Schema.{pieces, Numbers, none-at, all-are, onNumber, onNumbers, numbersOf}
 use Rattle.document.proofs.Pieces.{pieces-last, pieces-more}
 
 -- a text without c is passed over
@@ -59,3 +63,15 @@ next-piece v at e q p = rw q (here (leb at (length v)) refl (leb (find v at 44 +
           first = rw (h, g) (ap (pieces 44) (sym (not-found v at 44 (omega arith))) ∙ pieces-last 44 text (upTo-clear 44 (drop at v)));
         }
     here false h u g p = absurd (omega arith)
+
+-- where all pieces are numbers, these are as many
+pub numbers-many : (i : ℕ) (ps : List (List ℕ)) (zs : List ℤ) → numbersOf i ps ≡ all-are zs → length zs ≡ length ps
+unfolding numbersOf
+numbers-many i [] zs e = let q : zs ≡ [] = cc in rw q
+numbers-many i (p ∷ ps) zs e = here (numberOf p) (numbersOf (suc i) ps) (numbers-many (suc i) ps) e
+  where
+    here : (m : Num) (ns : Numbers) → ((r : List ℤ) → ns ≡ all-are r → length r ≡ length ps)
+        → onNumber m (none-at i) (λ z. onNumbers ns none-at (λ r. all-are (z ∷ r))) ≡ all-are zs → length zs ≡ suc (length ps)
+    here num.NotANumber ns q e = let z : _≡_ {A = ℕ} 0 1 = cc in absurd (omega arith)
+    here (num.Value z) (none-at j) q e = let z : _≡_ {A = ℕ} 0 1 = cc in absurd (omega arith)
+    here (num.Value z) (all-are r) q e = let w : zs ≡ z ∷ r = cc in rw w (ap suc (q r refl))

@@ -13,7 +13,7 @@ use Rattle.text.specs.declared.Num.the-variants as num
 use Rattle.text.specs.Number.{numberOf}
 use Rattle.sheet.specs.declared.Refusal.the-variants.{WrongCount, NotANumber}
 use Rattle.document.specs.Schema.{refused, Numbers, none-at, all-are, onNumbers, numbersOf}
-use Rattle.form.specs.Line.{handed}
+use Rattle.form.specs.Formed.{handed}
 use Rattle.form.specs.Fields.{accepted, fieldsOf}
 
 -- what the other pieces are as numbers, once the first is stored

@@ -8,23 +8,23 @@ use lib.Seq.{sets}
 use lib.Dec.{ltb, eqb}
 use lib.IntN.{ℤ}
 use Rattle.text.specs.Scanning.{upTo, find, count, begins}
-use Rattle.sheet.specs.declared.Refusal.the-variants.{Accepted, NoLineFeed, WrongCount, NotANumber}
+use Rattle.sheet.specs.declared.Refusal.the-variants.{NoLineFeed, WrongCount, NotANumber}
 use Rattle.document.specs.Schema.{refused, pieces, onNumbers, numbersOf}
-use Rattle.form.specs.declared.Line.{Line}
-use Rattle.form.specs.Line.{handed}
+use Rattle.form.specs.declared.Formed.{Formed}
+use Rattle.form.specs.Formed.{handed}
 
-abbrev pub accepted : ℕ → List ℤ → Line
-accepted next vals = record { refusal = Accepted; next = next; values = vals }
+abbrev pub accepted : ℕ → List ℤ → Formed
+accepted next vals = record { number = 0; field = 0; next = next; values = vals }
 
 -- a line of n fields that ends before `next`: the first i are read and stand in vals, and the pieces are left
-unfoldable pub fieldsOf : ℕ → ℕ → ℕ → List ℤ → List (List ℕ) → Line
+unfoldable pub fieldsOf : ℕ → ℕ → ℕ → List ℤ → List (List ℕ) → Formed
 fieldsOf n next i vals ps =
     cond (eqb (i + length ps) n)
     (onNumbers (numbersOf (suc i) ps) (λ j. handed 0 (refused (NotANumber j))) (λ zs. accepted next (sets vals i zs)))
     (handed 0 (refused WrongCount))
 
 -- the same of the text from a place on, of which the line's end is not known yet
-unfoldable pub fieldsAt : List ℕ → ℕ → ℕ → ℕ → List ℤ → Line
+unfoldable pub fieldsAt : List ℕ → ℕ → ℕ → ℕ → List ℤ → Formed
 fieldsAt s p n i vals =
     cond (ltb (find s p 10) (length s))
     (fieldsOf n (find s p 10 + 1) i vals (pieces 44 (upTo 10 (drop p s))))

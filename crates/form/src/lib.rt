@@ -3,20 +3,22 @@
 ghost use mathlib.Core.Path.{_≡_};
 ghost use Prim.Native.Nat.{_≤_};
 ghost use Rattle.document.specs.Schema.{refused, pieces};
-ghost use Rattle.form.specs.Line.{zeros, handed, lineAt};
+ghost use Rattle.form.specs.Formed.{zeros, handed, lineAt};
 ghost use Rattle.form.specs.Fields.{fieldsOf};
 use sheet::Refusal;
 use text::Num;
 
-// What was read where a line is due: `Accepted`, its numbers and the place after it, or why it is refused.
-pub struct Line {
-    pub refusal: Refusal,
+// What was read where a line is due: its numbers and the place after it, and then the number is 0; or document 01's number of the refusal and
+// the field that it names.
+pub struct Formed {
+    pub number: usize,
+    pub field: usize,
     pub next: usize,
     pub values: [i64; 13],
 }
 
 // The line at a place.
-pub fn judged(s: &[u8], at: usize, key: &[u8], n: usize) -> Line
+pub fn judged(s: &[u8], at: usize, key: &[u8], n: usize) -> Formed
     requires { ⌜ n ≤ 13 ⌝ }
     ensures { λ r. ⌜ r ≡ lineAt (now (s .entry)) at (now (key .entry)) n ⌝ }
 {
@@ -32,7 +34,7 @@ pub fn judged(s: &[u8], at: usize, key: &[u8], n: usize) -> Line
 }
 
 // What stands behind the key of a line that ends before `next`.
-fn fields(v: &[u8], n: usize, next: usize) -> Line
+fn fields(v: &[u8], n: usize, next: usize) -> Formed
     requires { ⌜ n ≤ 13 ⌝ }
     ensures { λ r. ⌜ r ≡ fieldsOf n next 0 zeros (pieces 44 (now (v .entry))) ⌝ }
 {
@@ -55,19 +57,21 @@ fn fields(v: &[u8], n: usize, next: usize) -> Line
         at = e + 1;
         i += 1;
     }
-    Line {
-        refusal: Refusal::Accepted,
+    Formed {
+        number: 0,
+        field: 0,
         next,
         values,
     }
 }
 
 // A line that is refused.
-fn refuse(refusal: Refusal) -> Line
-    ensures { λ r. ⌜ r ≡ handed 0 (refused refusal) ⌝ }
+fn refuse(why: Refusal) -> Formed
+    ensures { λ r. ⌜ r ≡ handed 0 (refused why) ⌝ }
 {
-    Line {
-        refusal,
+    Formed {
+        number: sheet::refusal_number(why),
+        field: sheet::refusal_field(why),
         next: 0,
         values: [0; 13],
     }

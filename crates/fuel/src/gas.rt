@@ -13,8 +13,8 @@ ghost use Rattle.document.specs.Reader.{readLine};
 ghost use Rattle.document.specs.Rules.{Every};
 ghost use Rattle.due.specs.Place.{Ready, After};
 use due::Place;
-use due::form;
 use due::ranged;
+use due::read_form;
 use due::ruled;
 use limits::Number;
 use quantity::gas::Share;
@@ -102,7 +102,7 @@ pub fn gas_line(s: &[u8], p: Place) -> GasLine
 {
     let mut numbers = [0; 13];
     let behind = quick::behind(s, p.at, b"gas=");
-    let q = form(s, p, b"gas=", behind, 13, &mut numbers);
+    let q = read_form(s, p, b"gas=", behind, 13, &mut numbers);
     let v = due::numbers(numbers);
     let t = gas_of(v);
     let inside = ranged(p.line, q, t.fault);

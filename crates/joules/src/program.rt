@@ -16,11 +16,10 @@ pub fn print(room: &[u8], n: usize, out: &mut [u8; 1024]) -> usize
     ensures { λ r. ⌜ r ≤ length (now (out .exit)) ⌝ }
 {
     let r = reader::read(&room[..n]);
-    if r.accepted {
+    if r.number == 0 {
         let sheet = r.sheet;
         return report::write_heats(out, heat::balance(sheet));
     }
-    let why = r.refusal;
-    let a = refused(why, r.line);
+    let a = refused(r.number, r.line);
     refusal_text(out, a.refusal, a.line)
 }

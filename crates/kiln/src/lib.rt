@@ -18,15 +18,14 @@ fn answered(sheet: &[u8], room: &mut [u8]) -> Answer
 {
     let l = reader::judged(sheet);
     let p = l.place;
-    if p.kind == 0 {
+    if p.number == 0 {
         let firing = l.sheet;
         let head = firing.head;
         let heats = heat::balance(firing);
         let figures = report::figures(head.firing, head.product, heats);
         return reported(&figures, room);
     }
-    let why = due::coded::refusal_of(p.kind, p.field);
-    refused(why, p.line)
+    refused(p.number, p.line)
 }
 
 // The balance of a sheet: the report at the front of the room and its length, or a refusal, and then no byte of the room changes.

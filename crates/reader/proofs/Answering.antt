@@ -6,13 +6,15 @@ use mathlib.Core.List.{List, [], _∷_, map}
 use native.Mathlib.Omega.{arith}
 use lib.Dec.{ltb, lit≤}
 use lib.ListN.{length, take, length-drop}
-use borrow.Author.Tests.{lt-ltb, le-ltb, ltb-true, ltb-false, eqb-true}
+use borrow.Author.Tests.{lt-ltb, le-ltb, ltb-true, ltb-false}
 use Rattle.sheet.specs.declared.Reading.{Reading}
 use Rattle.sheet.specs.declared.Refusal.{Refusal}
-use Rattle.sheet.specs.declared.Refusal.the-variants.{Accepted, TooLong, Surplus, Missing, GasTotal}
+use Rattle.sheet.specs.declared.Refusal.the-variants.{TooLong, Surplus, Missing, GasTotal}
 use Rattle.sheet.specs.declared.Sheet.{Sheet as Sheetˢ}
+use Rattle.sheet.specs.Refusals.{number}
 use Rattle.sheet.specs.Firing.{Firing, Stage}
 use Rattle.sheet.specs.Shown.{Shows, stage}
+use Rattle.sheet.proofs.Refusals.{numbered}
 use Rattle.document.specs.Schema.{on, within}
 use Rattle.document.specs.Quantities.{gasTotal}
 use Rattle.document.specs.Reader.{Sheet, Read, stopped, got, readLines, Answer, Refused, Good, judgedWhole, readOf}
@@ -21,15 +23,17 @@ use Rattle.document.specs.Editions.{document}
 use Rattle.document.specs.Rows.{stagesIn, sectionsIn, wallsIn, firingOf}
 use Rattle.document.specs.Limits.{Limits}
 use Rattle.document.proofs.Editions.{firing-limits}
+use Rattle.document.proofs.Numbering.{refuses}
+use Rattle.sheet.specs.Blank.{blankSheet}
 use Rattle.walls.specs.Cells.{allRead}
 use Rattle.walls.proofs.Missing.{all-read-is}
 use Rattle.due.specs.declared.Place.{Place}
 use Rattle.reader.specs.declared.all.Lines.{Lines}
 use Rattle.reader.specs.All.{Held, Sized}
 use Rattle.reader.specs.declared.whole.Outcome.{Outcome}
-use Rattle.due.specs.Place.{good, reason, refusedAt, Fair, Ready, Meets, After}
-use Rattle.reader.specs.Whole.{top, openingAs, gasOf, wholeAs, verdictAs, Judged, rejectedAs, Answers}
-use Rattle.due.proofs.Places.{not-both, is-good, refused-bad, refused-why}
+use Rattle.due.specs.Place.{good, refusedAt, Fair, Ready, Meets, After}
+use Rattle.reader.specs.Whole.{top, openingAs, gasOf, wholeAs, verdictAs, Judged, Answers}
+use Rattle.due.proofs.Places.{not-both, refused-bad}
 
 map-twice : {A B C : Type 0} (g : B → C) (f : A → B) (l : List A) → map g (map f l) ≡ map (λ x. g (f x)) l
 map-twice g f [] = refl
@@ -51,7 +55,7 @@ read-same {x} {sheet} h z =
     ∙ ap (λ (c : List Reading). allRead c (length (sectionsIn sheet)) (length (stagesIn sheet))) (sym (h .shows .readings))
     ∙ ap₂ (allRead (x .readings)) (h .sectionsAre) (h .stagesAre)
 
-module _ {x : Sheetˢ} {sheet : Sheet} (h : Held x sheet) (z : Sized x) (q : Place) (sound : q .kind ≡ 0) where
+module _ {x : Sheetˢ} {sheet : Sheet} (h : Held x sheet) (z : Sized x) (q : Place) (sound : good q ≡ true) where
   abbrev said-of : Bool → Bool → Answer
   said-of gas read = on (when (not gas) GasTotal else when (not read) Missing) (Good sheet) (λ r. Refused r 0)
 
@@ -73,7 +77,7 @@ module _ (s : List ℕ) (q : Place) (x : Sheetˢ) (z : Sized x) where
   lines-judged (stopped y n) m = rw (ap good m ∙ refused-bad y n) m
   lines-judged (got sheet n []) m =
       let e : length s ≤ q .at = omega (arith, length-drop (q .at) s, ap length (m .0 .left)) in
-      rw (m .0 .sound, le-ltb (q .at) (length s) e) (whole-judged (m .1) z q (eqb-true (q .kind) 0 (m .0 .sound)))
+      rw (m .0 .sound, le-ltb (q .at) (length s) e) (whole-judged (m .1) z q (m .0 .sound))
   lines-judged (got sheet n (b ∷ bs)) m =
       let e : q .at < length s = omega (arith, length-drop (q .at) s, ap length (m .0 .left)) in
       rw (m .0 .sound, lt-ltb (q .at) (length s) e) (ap (refusedAt Surplus) (m .0 .line))
@@ -89,19 +93,19 @@ module _ (n : ℕ) (p : Place) (e : p ≡ openingAs n) where
   opened : {t : Bool} → ltb 16384 n ≡ t → p ≡ cond t (refusedAt TooLong 0) top
   opened f = subst (λ (t : Bool). p ≡ cond t (refusedAt TooLong 0) top) f e
 
-  opened-short : p .kind ≡ 0 → n ≤ 16384
+  opened-short : p .number ≡ 0 → n ≤ 16384
   opened-short h = here (ltb 16384 n) refl
     where
       here : (b : Bool) → ltb 16384 n ≡ b → n ≤ 16384
-      here true f = let z : _≡_ {A = ℕ} 2 0 = sym (ap (λ (q : Place). q .kind) (opened f)) ∙ h in absurd (omega arith)
+      here true f = absurd (omega (arith, h, ap (λ (q : Place). q .number) (opened f), numbered TooLong .some))
       here false f = ltb-false 16384 n f
 
-  opened-long : ¬ (p .kind ≡ 0) → 16384 < n
+  opened-long : ¬ (p .number ≡ 0) → 16384 < n
   opened-long h = here (ltb 16384 n) refl
     where
       here : (b : Bool) → ltb 16384 n ≡ b → 16384 < n
       here true f = ltb-true 16384 n f
-      here false f = absurd (h (ap (λ (q : Place). q .kind) (opened f)))
+      here false f = absurd (h (ap (λ (q : Place). q .number) (opened f)))
 
   pub opened-ready : (t : List ℕ) → length t ≤ 16384 → Ready t p
   opened-ready t short = record { short = short; fair = λ g. here (ltb 16384 n) refl g }
@@ -110,10 +114,10 @@ module _ (n : ℕ) (p : Place) (e : p ≡ openingAs n) where
       here true f g = not-both (good p) g (ap good (opened f))
       here false f g = subst (Fair t) (sym (opened f)) (record { field = refl; line = lit≤ tt; within = omega arith })
 
-  pub looked-all : {k : ℕ} → p .kind ≡ 0 → k ≡ n → Looked n k
+  pub looked-all : {k : ℕ} → p .number ≡ 0 → k ≡ n → Looked n k
   looked-all h f = let short = opened-short h in record { inside = omega arith; few = omega arith; whole = λ g. f }
 
-  pub looked-none : {k : ℕ} → ¬ (p .kind ≡ 0) → k ≡ 0 → Looked n k
+  pub looked-none : {k : ℕ} → ¬ (p .number ≡ 0) → k ≡ 0 → Looked n k
   looked-none h f = let long = opened-long h in record { inside = omega arith; few = omega arith; whole = λ g. absurd (omega arith) }
 
 -- THE JUDGEMENT: t is what was looked at, all that a sheet of good length has
@@ -147,18 +151,21 @@ module _ (s t : List ℕ) (all-of-it : length s ≤ 16384 → t ≡ s) (q : Plac
 
 -- THE ANSWER from it
 pub answer-refused : (s : List ℕ) (r : Lines) → Judged (readOf document s) r → good (r .place) ≡ false
-    → Answers (readOf document s) (rejectedAs (reason (r .place)) (r .place .line))
+    → Answers (readOf document s) (record { number = r .place .number; field = r .place .field; line = r .place .line; sheet = blankSheet })
 answer-refused s r h e = here (readOf document s) h
   where
-    here : (a : Answer) → Judged a r → Answers a (rejectedAs (reason (r .place)) (r .place .line))
-    here (Refused x n) k = ap (λ (p : Place). rejectedAs (reason p) (p .line)) k ∙ ap (λ (y : Refusal). rejectedAs y n) (refused-why x n)
-    here (Good sheet) k = not-both (good (r .place)) (is-good (r .place) (k .0)) e
+    rejected : Place → Outcome
+    rejected p = record { number = p .number; field = p .field; line = p .line; sheet = blankSheet }
+
+    here : (a : Answer) → Judged a r → Answers a (rejected (r .place))
+    here (Refused x n) k = ap rejected k
+    here (Good sheet) k = not-both (good (r .place)) (k .0) e
 
 pub answer-good : (s : List ℕ) (r : Lines) → Judged (readOf document s) r → good (r .place) ≡ true
-    → Answers (readOf document s) (record { accepted = true; refusal = Accepted; line = 0; sheet = r .sheet })
+    → Answers (readOf document s) (record { number = 0; field = 0; line = 0; sheet = r .sheet })
 answer-good s r h e = here (readOf document s) h
   where
-    here : (a : Answer) → Judged a r → Answers a (record { accepted = true; refusal = Accepted; line = 0; sheet = r .sheet })
+    here : (a : Answer) → Judged a r → Answers a (record { number = 0; field = 0; line = 0; sheet = r .sheet })
     here (Refused x n) k = not-both (good (r .place)) e (ap good k ∙ refused-bad x n)
     here (Good sheet) k = (refl, refl, refl, k .1, k .2)
 
@@ -168,11 +175,11 @@ pub record Firm (s : List ℕ) (x : Sheetˢ) : Type 0 where
   pub good : readOf document s ≡ Good sheet
   pub shows : Shows x (firingOf sheet)
 
-pub firm : (s : List ℕ) (r : Outcome) → Answers (readOf document s) r → r .accepted ≡ true → Firm s (r .sheet)
+pub firm : (s : List ℕ) (r : Outcome) → Answers (readOf document s) r → r .number ≡ 0 → Firm s (r .sheet)
 firm s r h e = here (readOf document s) refl h
   where
     here : (a : Answer) → readOf document s ≡ a → Answers a r → Firm s (r .sheet)
-    here (Refused x n) g k = not-both (r .accepted) e (ap (λ (o : Outcome). o .accepted) k)
+    here (Refused x n) g k = absurd (omega (arith, e, ap (λ (o : Outcome). o .number) k, numbered x .some))
     here (Good sheet) g k = record { sheet = sheet; good = g; shows = k .3 }
 
 -- the same by the judgement
@@ -186,11 +193,27 @@ firm-judged s r h e = here (readOf document s) refl h
 pub firm-limits : {s : List ℕ} {x : Sheetˢ} (a : Firm s x) → Limits (firingOf (a .sheet))
 firm-limits {s} a = firing-limits s (a .sheet) (a .good)
 
--- A REFUSED SHEET: document 01's refusal and line are those that the code finds
-pub refused-judged : (s : List ℕ) (r : Lines) → Judged (readOf document s) r → good (r .place) ≡ false
-    → readOf document s ≡ Refused (reason (r .place)) (r .place .line)
-refused-judged s r h e = here (readOf document s) h
+-- A REFUSED SHEET: a number and a line are those of the refusal that document 01 asks for
+pub record Denied (s : List ℕ) (n line : ℕ) : Type 0 where
+  pub why : Refusal
+  pub is : readOf document s ≡ Refused why line
+  pub numbers : n ≡ number why
+
+pub denied : (s : List ℕ) (r : Outcome) → Answers (readOf document s) r → ¬ (r .number ≡ 0) → Denied s (r .number) (r .line)
+denied s r h e = here (readOf document s) refl h
   where
-    here : (a : Answer) → Judged a r → a ≡ Refused (reason (r .place)) (r .place .line)
-    here (Refused x n) k = sym (ap (λ (p : Place). Refused (reason p) (p .line)) k ∙ ap (λ (y : Refusal). Refused y n) (refused-why x n))
-    here (Good sheet) k = not-both (good (r .place)) (is-good (r .place) (k .0)) e
+    here : (a : Answer) → readOf document s ≡ a → Answers a r → Denied s (r .number) (r .line)
+    here (Refused x n) g k = record { why = x; is = g ∙ ap (Refused x) (sym (ap (λ (o : Outcome). o .line) k)); numbers = ap (λ (o : Outcome). o .number) k }
+    here (Good sheet) g k = absurd (e (k .0))
+
+-- the same by the judgement
+pub denied-judged : (s : List ℕ) (r : Lines) → Judged (readOf document s) r → good (r .place) ≡ false → Denied s (r .place .number) (r .place .line)
+denied-judged s r h e = here (readOf document s) refl h
+  where
+    here : (a : Answer) → readOf document s ≡ a → Judged a r → Denied s (r .place .number) (r .place .line)
+    here (Refused x n) g k = record { why = x; is = g ∙ ap (Refused x) (sym (ap (λ (p : Place). p .line) k)); numbers = ap (λ (p : Place). p .number) k }
+    here (Good sheet) g k = not-both (good (r .place)) (k .0) e
+
+-- both numbers are small
+pub denied-small : {s : List ℕ} {n line : ℕ} → Denied s n line → (n ≤ 11) × (line ≤ 16385)
+denied-small {s} {n} {line} d = (omega (arith, d .numbers, numbered (d .why) .most), refuses s (d .why) line (d .is) .within)

@@ -1,14 +1,15 @@
 -- Where the code begins to read, the rules of the whole sheet, and what it answers.
 use Prim.Native.Nat.{ℕ}
 use mathlib.Core.Path.{_≡_}
-use mathlib.Core.Bool.{true, false, cond}
+use mathlib.Core.Bool.{true, cond}
 use mathlib.Core.List.{map}
 use lib.Dec.{ltb}
 use lib.ListN.{take}
 use lib.IntN.{ℤ}
 use Rattle.sheet.specs.declared.Sheet.{Sheet as Sheetˢ}
 use Rattle.sheet.specs.declared.Refusal.{Refusal}
-use Rattle.sheet.specs.declared.Refusal.the-variants.{Accepted, TooLong, Surplus, Missing, GasTotal}
+use Rattle.sheet.specs.declared.Refusal.the-variants.{TooLong, Surplus, Missing, GasTotal}
+use Rattle.sheet.specs.Refusals.{number, field}
 use Rattle.sheet.specs.Shown.{Shows}
 use Rattle.document.specs.Schema.{within}
 use Rattle.document.specs.Quantities.{gasTotal}
@@ -25,7 +26,7 @@ use Rattle.sheet.specs.Blank.{blankSheet}
 
 -- before the first line
 abbrev pub top : Place
-top = record { kind = 0; field = 0; line = 1; at = 0 }
+top = record { number = 0; field = 0; line = 1; at = 0 }
 
 -- where the reading of n bytes begins
 abbrev pub openingAs : ℕ → Place
@@ -36,7 +37,10 @@ abbrev pub gasOf : Sheetˢ → ℤ
 gasOf x = sumOf (map (λ y. y .gas .0) (take (x .stages .count .0) (x .stages .lines)))
 
 abbrev pub wholeAs : Place → Sheetˢ → Place
-wholeAs p x = cond (within gasTotal (gasOf x)) (cond (allRead (x .readings) (x .sections .count .0) (x .stages .count .0)) p (refusedAt Missing 0)) (refusedAt GasTotal 0)
+wholeAs p x =
+    cond (within gasTotal (gasOf x))
+    (cond (allRead (x .readings) (x .sections .count .0) (x .stages .count .0)) p (refusedAt Missing 0))
+    (refusedAt GasTotal 0)
 
 -- the place after them, of n bytes that were read up to p; a refused place passes through
 abbrev pub verdictAs : ℕ → Place → Sheetˢ → Place
@@ -46,12 +50,13 @@ verdictAs n p x = cond (good p) (cond (ltb (p .at) n) (refusedAt Surplus (p .lin
 -- refusal the struct stays open.
 abbrev pub Judged : Answer → Lines → Type 0
 Judged (Refused x n) r = r .place ≡ refusedAt x n
-Judged (Good sheet) r = (r .place .kind ≡ 0) × Shows (r .sheet) (firingOf sheet) × Trimmed (r .sheet)
+Judged (Good sheet) r = (good (r .place) ≡ true) × Shows (r .sheet) (firingOf sheet) × Trimmed (r .sheet)
 
 abbrev pub rejectedAs : Refusal → ℕ → Outcome
-rejectedAs x n = record { accepted = false; refusal = x; line = n; sheet = blankSheet }
+rejectedAs x n = record { number = number x; field = field x; line = n; sheet = blankSheet }
 
--- THE CODE'S ANSWER: document 01's refusal with its line, or the struct of the firing that the sheet gives, and nothing else
+-- THE CODE'S ANSWER: document 01's refusal by its number and its field, with its line; or no refusal and the struct of the firing that the
+-- sheet gives; and nothing else
 abbrev pub Answers : Answer → Outcome → Type 0
 Answers (Refused x n) r = r ≡ rejectedAs x n
-Answers (Good sheet) r = (r .accepted ≡ true) × (r .refusal ≡ Accepted) × (r .line ≡ 0) × Shows (r .sheet) (firingOf sheet) × Trimmed (r .sheet)
+Answers (Good sheet) r = (r .number ≡ 0) × (r .field ≡ 0) × (r .line ≡ 0) × Shows (r .sheet) (firingOf sheet) × Trimmed (r .sheet)

@@ -6,45 +6,46 @@ mod whole;
 use crate::all::Lines;
 use crate::all::all_lines;
 use crate::whole::opening;
-use crate::whole::rejected;
 use crate::whole::verdict;
-use due::coded::refusal_of;
-use sheet::Refusal;
 pub use whole::Outcome;
 ghost use Rattle.document.specs.Editions.{document};
 ghost use Rattle.document.specs.Reader.{readOf};
 ghost use Rattle.reader.specs.Whole.{Judged, Answers};
 
 // The firing that a sheet gives and a place that is not refused, or the first rule that the sheet breaks as the place; what the firing
-// then is stays open. There is one way through it, so that the compiler need not keep a second sheet. Of a text that is too long nothing
-// is looked at.
+// then is stays open. Of a text that is too long nothing is looked at.
+// One way through it, for the compiler: docs/DECISIONS.md, "`kiln` calls `judged` and not `read`".
 pub fn judged(s: &[u8]) -> Lines
     ensures { λ r. ⌜ Judged (readOf document (now (s .entry))) r ⌝ }
 {
     let n = s.len();
     let start = opening(n);
-    let looked = if start.kind == 0 { n } else { 0 };
+    let looked = if start.number == 0 { n } else { 0 };
     let l = all_lines(&s[..looked], start);
     let place = verdict(n, l.place, l.sheet);
     let sheet = l.sheet;
     Lines { place, sheet }
 }
 
-// The firing that a sheet gives, or the first rule that it breaks and the line, 0 for the whole sheet; then the firing is blank.
+// The firing that a sheet gives, or the number, the field and the line of the first rule that it breaks; then the firing is blank.
 pub fn read(s: &[u8]) -> Outcome
     ensures { λ r. ⌜ Answers (readOf document (now (s .entry))) r ⌝ }
 {
     let l = judged(s);
     let p = l.place;
-    if p.kind == 0 {
+    if p.number == 0 {
         let sheet = l.sheet;
         return Outcome {
-            accepted: true,
-            refusal: Refusal::Accepted,
+            number: 0,
+            field: 0,
             line: 0,
             sheet,
         };
     }
-    let why = refusal_of(p.kind, p.field);
-    rejected(why, p.line)
+    Outcome {
+        number: p.number,
+        field: p.field,
+        line: p.line,
+        sheet: sheet::blank::sheet(),
+    }
 }

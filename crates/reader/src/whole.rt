@@ -2,33 +2,19 @@
 ghost use Prim.Native.Nat.{_≤_};
 ghost use mathlib.Core.Path.{_≡_};
 ghost use mathlib.Core.List.{map};
-ghost use lib.ListN.{length, take};
+ghost use lib.ListN.{take};
 ghost use Rattle.document.specs.Tests.{sumOf};
 ghost use Rattle.document.specs.Rules.{Every};
 ghost use Rattle.blocks.specs.Stages.{SmallGas};
-ghost use Rattle.due.specs.Place.{refusedAt};
 ghost use Rattle.reader.specs.All.{Sized};
-ghost use Rattle.reader.specs.Whole.{openingAs, rejectedAs, verdictAs};
+ghost use Rattle.reader.specs.Whole.{openingAs, verdictAs};
 use due::Place;
-use due::coded::field_of;
-use due::coded::kind_of;
+use due::refused;
 use limits::Number;
 use quantity::gas::GasTotal;
 use sheet::Refusal;
 use sheet::Sheet;
 use sheet::Stage;
-
-// A place that is refused.
-fn refused(refusal: Refusal, line: usize) -> Place
-    ensures { λ r. ⌜ r ≡ refusedAt refusal line ⌝ }
-{
-    Place {
-        kind: kind_of(refusal),
-        field: field_of(refusal),
-        line,
-        at: 0,
-    }
-}
 
 // Where the reading of so many bytes begins: before the first line, or refused if they are more than a sheet may have.
 pub fn opening(n: usize) -> Place
@@ -38,7 +24,7 @@ pub fn opening(n: usize) -> Place
         return refused(Refusal::TooLong, 0);
     }
     Place {
-        kind: 0,
+        number: 0,
         field: 0,
         line: 1,
         at: 0,
@@ -62,24 +48,13 @@ fn gas_total(lines: [Stage; 12], count: usize) -> Number
     total
 }
 
-// A firing as its sheet gives it, or why the sheet is refused and in which line, 0 for the whole; then the firing is blank.
+// A firing as its sheet gives it, and then the numbers are 0; or document 01's number of the refusal, the field that it names and its line, 0
+// for the whole sheet, and then the firing is blank.
 pub struct Outcome {
-    pub accepted: bool,
-    pub refusal: Refusal,
+    pub number: usize,
+    pub field: usize,
     pub line: usize,
     pub sheet: Sheet,
-}
-
-// The outcome of a sheet that is refused.
-pub fn rejected(refusal: Refusal, line: usize) -> Outcome
-    ensures { λ r. ⌜ r ≡ rejectedAs refusal line ⌝ }
-{
-    Outcome {
-        accepted: false,
-        refusal,
-        line,
-        sheet: sheet::blank::sheet(),
-    }
 }
 
 // The place after the rules of the whole sheet: that nothing stands below the last line, the gas of all stages, and then a reading for
@@ -88,7 +63,7 @@ pub fn verdict(n: usize, p: Place, sheet: Sheet) -> Place
     requires { ⌜ Sized sheet ⌝ }
     ensures { λ r. ⌜ r ≡ verdictAs n p sheet ⌝ }
 {
-    if p.kind != 0 {
+    if p.number != 0 {
         return p;
     }
     if p.at < n {

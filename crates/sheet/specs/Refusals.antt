@@ -1,10 +1,9 @@
 -- What the clerk hears: document 01's number of each refusal, and the field it names.
 use Prim.Native.Nat.{ℕ}
 use Rattle.sheet.specs.declared.Refusal.{Refusal}
-use Rattle.sheet.specs.declared.Refusal.the-variants.{Accepted, TooLong, NoLineFeed, WrongKey, WrongCount, NotANumber, Surplus, Outside, Material, Shares, SectionTwice, NoSuchWall, ReadTwice, Missing, Colder, GasTotal, NoRoom}
+use Rattle.sheet.specs.declared.Refusal.the-variants.{TooLong, NoLineFeed, WrongKey, WrongCount, NotANumber, Surplus, Outside, Material, Shares, SectionTwice, NoSuchWall, ReadTwice, Missing, Colder, GasTotal, NoRoom}
 
 abbrev pub number : Refusal → ℕ
-number Accepted = 0
 number TooLong = 1
 number NoLineFeed = 2
 number WrongKey = 2
@@ -24,7 +23,6 @@ number NoRoom = 11
 
 -- counted from 1; 0 where the whole line, or the whole sheet, is meant
 abbrev pub field : Refusal → ℕ
-field Accepted = 0
 field TooLong = 0
 field NoLineFeed = 0
 field WrongKey = 0

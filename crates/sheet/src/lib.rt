@@ -2,7 +2,7 @@
 pub mod blank;
 
 ghost use mathlib.Core.Path.{_≡_};
-ghost use Rattle.sheet.specs.Refusals.{number};
+ghost use Rattle.sheet.specs.Refusals.{number, field};
 use quantity::gas::CarbonMonoxide;
 use quantity::gas::CubicMetres;
 use quantity::gas::ExcessAir;
@@ -30,9 +30,8 @@ use quantity::temperature::FuelTemperature;
 use quantity::temperature::NearAir;
 use quantity::temperature::SurfaceTemperature;
 
-// What the clerk hears: why a sheet is refused, or that it is not. A field counts from 1.
+// Why a sheet is refused. A field counts from 1.
 pub enum Refusal {
-    Accepted,
     TooLong,
     NoLineFeed,
     WrongKey,
@@ -102,9 +101,9 @@ pub struct Section {
     pub area: Area,
 }
 
-// What was measured at a section in a stage, if it was: `read` is 1 then, and else 0. A bool would leave a gap behind it, which 144 copies
-// would move along.
+// What was measured at a section in a stage, if it was: `read` is 1 then, and else 0.
 pub struct Reading {
+    // So written for the compiler: docs/DECISIONS.md, "A place is four numbers".
     pub read: u16,
     pub surface: SurfaceTemperature,
     pub air: NearAir,
@@ -160,7 +159,6 @@ pub fn refusal_number(refusal: Refusal) -> usize
     ensures { λ r. ⌜ r ≡ number refusal ⌝ }
 {
     match refusal {
-        Refusal::Accepted => 0,
         Refusal::TooLong => 1,
         Refusal::NoLineFeed => 2,
         Refusal::WrongKey => 2,
@@ -177,5 +175,29 @@ pub fn refusal_number(refusal: Refusal) -> usize
         Refusal::Colder => 9,
         Refusal::GasTotal => 10,
         Refusal::NoRoom => 11,
+    }
+}
+
+// The field that a refusal names; 0 where it means the whole line, or the whole sheet.
+pub fn refusal_field(refusal: Refusal) -> usize
+    ensures { λ r. ⌜ r ≡ field refusal ⌝ }
+{
+    match refusal {
+        Refusal::TooLong => 0,
+        Refusal::NoLineFeed => 0,
+        Refusal::WrongKey => 0,
+        Refusal::WrongCount => 0,
+        Refusal::NotANumber(i) => i,
+        Refusal::Surplus => 0,
+        Refusal::Outside(i) => i,
+        Refusal::Material(i) => i,
+        Refusal::Shares => 0,
+        Refusal::SectionTwice => 0,
+        Refusal::NoSuchWall => 0,
+        Refusal::ReadTwice => 0,
+        Refusal::Missing => 0,
+        Refusal::Colder => 0,
+        Refusal::GasTotal => 0,
+        Refusal::NoRoom => 0,
     }
 }

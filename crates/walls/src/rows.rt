@@ -109,7 +109,7 @@ pub fn wall_rows(
         let there = readings[cell];
         let q = l.place;
         p = read_once(p.line, q, there, w);
-        if p.kind == 0 {
+        if p.number == 0 {
             let x = reading_of(w);
             readings[cell] = x;
         }

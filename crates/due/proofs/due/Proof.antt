@@ -9,8 +9,8 @@ returns c =
     let formed = c .before in
     let behind = formed .before .before in
     let a = behind .before .before .before in
-    due-form (a .args .s .now) (a .args .p) (a .args .key .now) (a .args .n) (formed .form .result) _ (c .numbers .result) (a .pre .0)
-    (c .numbers .ensures) (formed .form .ensures)
+    due-form (a .args .s .now) (a .args .p) (a .args .key .now) (a .args .n) (formed .read-form .result) _ (c .numbers .result) (a .pre .0)
+    (c .numbers .ensures) (formed .read-form .ensures)
 
 pub due-spec : {M : Type 1} → statement M
 due-spec = tie.close (tie.spec (λ c κs. search needs) (λ c κs. search needs) (λ c κs. search needs) returns)

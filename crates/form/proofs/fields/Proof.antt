@@ -14,7 +14,7 @@ use Rattle.text.specs.Number.{numberOf}
 use Rattle.text.specs.Scanning.{upTo}
 use Rattle.text.proofs.Scanning.{piece}
 use Rattle.document.specs.Schema.{pieces}
-use Rattle.form.specs.Line.{zeros}
+use Rattle.form.specs.Formed.{zeros}
 use Rattle.form.specs.Fields.{fieldsOf}
 use Rattle.document.proofs.Pieces.{pieces-count}
 use Rattle.form.proofs.Pieces.{left, left-all, Piece, next-piece}

@@ -6,21 +6,15 @@ use mathlib.Core.List.{List}
 use native.Mathlib.Omega.{arith}
 use lib.ListN.{length}
 use Rattle.sheet.specs.declared.Sheet.{Sheet}
-use Rattle.sheet.specs.declared.Refusal.{Refusal}
-use Rattle.sheet.specs.Refusals.{number}
-use Rattle.document.specs.Reader.{Refused, readOf}
-use Rattle.document.specs.Editions.{document}
 use Rattle.document.specs.Rows.{firingOf}
-use Rattle.document.proofs.Numbering.{refuses}
 use Rattle.formulas.specs.Items.{shuttle}
 use Rattle.formulas.specs.Report.{keys, linesText, report}
 use Rattle.heat.specs.Balance.{Kept}
 use Rattle.heat.proofs.Kept.{field}
 use Rattle.report.specs.Figures.{Found}
 use Rattle.report.proofs.Room.{each-fits}
-use Rattle.due.specs.Place.{reason}
 use Rattle.due.proofs.Places.{is-good, is-bad}
-use Rattle.reader.proofs.Answering.{Firm, firm-judged, firm-limits, refused-judged}
+use Rattle.reader.proofs.Answering.{Firm, firm-judged, firm-limits, Denied, denied-judged, denied-small}
 use Rattle.answer.specs.Answer.{refusedAs, fitted, placed}
 use Rattle.kiln.proofs.Answering.{answer-good, buffer-good, short-good, answer-bad, buffer-bad, short-bad}
 use Rattle.kiln.proofs.answered.Statement.{statement}
@@ -29,24 +23,31 @@ use Rattle.kiln.proofs.answered.Tie as tie
 judged-requires : tie.Need-judged-requires
 judged-requires c κs = search needs
 
--- where the sheet has been read, and its bytes
+-- where the sheet has been accepted, where it has been read, and its bytes
+abbrev accepted : tie.After-head → tie.Then1
+accepted c = c .before .before
+
 abbrev J : tie.After-head → tie.After-judged
-J c = c .before .before .before .before .before
+J c = accepted c .before .before .before
 
 abbrev bytes : tie.After-judged → List ℕ
 bytes c = c .before .before .before .args .sheet .now
 
+-- where the figures have been found, from behind the writing of the report
+abbrev figured : tie.After-reported → tie.After-figures
+figured c = c .before .before .before
+
 -- what was accepted
 abbrev firing : (c : tie.After-head) → Firm (bytes (J c)) (J c .judged .result .sheet)
-firing c = let j = J c .judged in firm-judged _ (j .result) (j .ensures) (is-good (j .result .place) (c .before .before .if1 .taken))
+firing c = let j = J c .judged in firm-judged _ (j .result) (j .ensures) (is-good (j .result .place) (accepted c .if1 .taken))
 
 -- what was refused
 abbrev refusal : (c : tie.Else1) →
     let j = c .before .before .before in
-    readOf document (bytes j) ≡ Refused (reason (j .judged .result .place)) (j .judged .result .place .line)
+    Denied (bytes j) (j .judged .result .place .number) (j .judged .result .place .line)
 refusal c =
     let j = c .before .before .before .judged in
-    refused-judged _ (j .result) (j .ensures) (is-bad (j .result .place) (c .if1 .left))
+    denied-judged _ (j .result) (j .ensures) (is-bad (j .result .place) (c .if1 .left))
 
 kept : {s : List ℕ} {x : Sheet} (a : Firm s x) → Kept x (firingOf (a .sheet))
 kept a = record { shows = a .shows; limits = firm-limits a }
@@ -77,7 +78,7 @@ returns : tie.Need-returns
 unfolding report
 returns c =
     let w = c .before .before .reported .ensures in
-    let d = c .before .before .before .before .before in
+    let d = figured (c .before .before) in
     let j = J (d .before .before) in
     let s = bytes j in
     let room = j .before .before .before .args .room .now in
@@ -89,16 +90,16 @@ returns c =
     (answer, (buffer, short-good s (a .good) (rw text at (w .1 .1))))
 
 refused-requires : tie.Need-refused-requires
-refused-requires c κs = omega (arith, refuses _ _ _ (refusal (c .before)) .within)
+refused-requires c κs = let small = denied-small (refusal c) in (omega (arith, small .0), omega (arith, small .1))
 
 returns-2 : tie.Need-returns-2
 returns-2 c =
-    let e = refusal (c .before .before) in
-    let j = c .before .before .before .before .before in
+    let d = refusal (c .before) in
+    let j = c .before .before .before .before in
     let s = bytes j in
     let room = j .before .before .before .args .room .now in
-    let why = ap (λ (x : Refusal). refusedAs (number x) (j .judged .result .place .line)) (c .before .refusal-of .ensures) in
-    (c .refused .ensures ∙ why ∙ answer-bad s e (length room), (buffer-bad s e room, short-bad s e))
+    let why = ap (λ (n : ℕ). refusedAs n (j .judged .result .place .line)) (d .numbers) in
+    (c .refused .ensures ∙ why ∙ answer-bad s (d .is) (length room), (buffer-bad s (d .is) room, short-bad s (d .is)))
 
 pub answered-spec : {M : Type 1} → statement M
 answered-spec =
@@ -110,6 +111,5 @@ answered-spec =
     reported-requires
     same-length
     returns
-    (λ c κs. search needs)
     refused-requires
     returns-2)

@@ -13,11 +13,11 @@ returns c =
 
 returns-2 : tie.Need-returns-2
 returns-2 c =
-    let bad = c .before .before in
+    let bad = c .before in
     let judged = bad .before .before .before in
     let j = judged .judged in
-    rw (c .rejected .ensures, c .before .refusal-of .ensures)
+    rw (c .sheet2 .ensures)
     (answer-refused (judged .before .before .args .s .now) (j .result) (j .ensures) (is-bad (j .result .place) (bad .if1 .left)))
 
 pub read-spec : {M : Type 1} → statement M
-read-spec = tie.close (tie.spec (λ c κs. search needs) returns (λ c κs. search needs) (λ c κs. search needs) returns-2)
+read-spec = tie.close (tie.spec (λ c κs. search needs) returns (λ c κs. search needs) returns-2)

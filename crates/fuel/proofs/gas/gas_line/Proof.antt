@@ -25,7 +25,7 @@ returns c =
     let ranged = c .before .before .before in
     let t = ranged .before .gas-of in
     let n = ranged .before .before .numbers2 in
-    let f = ranged .before .before .before .form in
+    let f = ranged .before .before .before .read-form in
     let whole : List ℤ → Bool = λ zs. not (same (sumOf zs) (pos 10000) && ltZ (pos 0) (weigh airWeights zs)) in
     ruled-line gasLine (n .result) (λ zs. shares (t .result .gas) ≡ zs) (gas-rule []) (u .result) Shares
     (due-form _ _ _ 13 (f .result) _ (n .result) (lit≤ tt) (n .ensures) (f .ensures)) (t .ensures .takes) (ranged .ranged .ensures)

@@ -1,5 +1,5 @@
 -- What the quick reader has seen is the line, and else the careful reader says what it is. Assumes nothing.
-use mathlib.Core.Path.{_≡_, sym, ap, _∙_}
+use mathlib.Core.Path.{_≡_, refl, sym, ap, _∙_}
 use mathlib.Core.Logic.{⊎-elim}
 use native.Mathlib.Omega.{arith}
 use lib.ListN.{length}
@@ -9,8 +9,8 @@ use Rattle.form.proofs.Lines.{keyed-line}
 use Rattle.due.specs.Form.{readForm}
 use Rattle.due.proofs.Places.{is-good, is-bad}
 use Rattle.due.proofs.Formed.{form-read, form-passed}
-use Rattle.due.proofs.form.Statement.{statement}
-use Rattle.due.proofs.form.Tie as tie
+use Rattle.due.proofs.read_form.Statement.{statement}
+use Rattle.due.proofs.read_form.Tie as tie
 
 -- the start, from where the place is good, and this place, from where the row is read
 abbrev start : tie.Then1 → tie.Start
@@ -34,7 +34,7 @@ returns c =
     let k = a .pre .1 .1 .0 (seen .before .before .before .if2 .taken) in
     rw (c .onward .ensures)
     (form-read (a .args .s .now) (a .args .p) (a .args .key .now) (a .args .n) (a .pre .1 .0) (is-good (a .args .p) (g .if1 .taken))
-    (accepted (r .result) _) (r .ensures .0 (seen .if3 .taken) ∙ rw (k .1, a .pre .1 .1 .1) (sym (keyed-line _ _ _ _ (k .0)))) (seen .if3 .taken))
+    (accepted (r .result) _) (r .ensures .0 (seen .if3 .taken) ∙ rw (k .1, a .pre .1 .1 .1) (sym (keyed-line _ _ _ _ (k .0)))) refl)
 
 careful-requires : tie.Need-careful-requires
 careful-requires c κs =
@@ -49,7 +49,7 @@ returns-3 c =
     let a = c .before .before .before .before .args in
     form-passed (a .s .now) (a .p) (readForm (a .key .now) (a .n)) _ (is-bad (a .p) (c .if1 .left))
 
-pub form-spec : {M : Type 1} → statement M
-form-spec =
+pub read-form-spec : {M : Type 1} → statement M
+read-form-spec =
     tie.close
     (tie.spec (λ c κs. search needs) onward-requires returns careful-requires (λ c. search needs) returns-3)
