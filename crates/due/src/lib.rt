@@ -142,7 +142,7 @@ pub fn due(s: &[u8], p: Place, key: &[u8], n: usize) -> LineDue
     let q = read_form(s, p, key, behind, n, &mut v);
     let values = numbers(v);
     LineDue {
-        // Put together anew for the compiler: docs/DECISIONS.md, "A place is four numbers".
+        // Put together anew for the compiler: docs/DECISIONS.md, "A plain line is read in one pass, into an array that is lent".
         place: Place {
             number: q.number,
             field: q.field,

@@ -15,7 +15,6 @@ use lib.Dec.{ltb, eqb, lit<}
 use borrow.Author.Tests.{eq-eqb, ne-eqb, lt-ltb, le-ltb, le-leb, ltb-true, eqb-true}
 use Rattle.text.specs.declared.Num.the-variants.{Value, NotANumber}
 use Rattle.text.specs.Bytes.{bytes}
-use Rattle.text.specs.Decimal.{digits}
 use Rattle.text.specs.Number.{digitsRead, leadingZero, unsigned, numberWithin, numberOf}
 use Rattle.text.specs.Scanning.{upTo, find, count, begins}
 use Rattle.text.proofs.Reading.{only-text}

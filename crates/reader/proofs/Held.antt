@@ -1,7 +1,6 @@
 -- From what all lines say to the struct that shows it. Assumes nothing.
 use Prim.Native.Nat.{ℕ}
 use mathlib.Core.Path.{_≡_, refl, sym, ap, _∙_, subst}
-use mathlib.Core.Bool.{true, false}
 use mathlib.Core.List.{List, [], _∷_, _++_, map}
 use mathlib.Core.Option.{none}
 use lib.IntN.{ℤ, pos}
@@ -23,7 +22,7 @@ use Rattle.walls.specs.Cells.{Placed}
 use Rattle.sheet.specs.Blank.{blankStage, blankSetter, blankPart, blankSection}
 use Rattle.fuel.specs.Fuel.{shares}
 use Rattle.due.specs.declared.Place.{Place}
-use Rattle.due.specs.Place.{good, After}
+use Rattle.due.specs.Place.{After}
 use Rattle.due.proofs.Places.{after-bind, after-weaker}
 use Rattle.reader.specs.declared.ends.EditionLine.{EditionLine}
 use Rattle.reader.specs.declared.ends.ClosingLine.{ClosingLine}

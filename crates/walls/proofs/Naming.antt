@@ -1,5 +1,5 @@
 -- A wall line and rule 6 on it. Assumes nothing.
-use Prim.Native.Nat.{ℕ, _≤_, _<_}
+use Prim.Native.Nat.{ℕ, _<_}
 use mathlib.Core.Path.{_≡_, refl, sym, ap, _∙_, subst}
 use mathlib.Core.Bool.{true, false}
 use mathlib.Core.List.{List}
@@ -20,12 +20,11 @@ use Rattle.document.specs.Reader.{readLine}
 use Rattle.document.specs.Rows.{wallOf}
 use Rattle.document.proofs.Cases.{clash}
 use Rattle.due.specs.declared.Place.{Place}
-use Rattle.due.specs.Place.{good, After, ruled}
+use Rattle.due.specs.Place.{good, After}
 use Rattle.due.proofs.Lines.{Kept, ruled-after, not-met}
 use Rattle.due.proofs.Places.{after-weaker}
 use Rattle.walls.specs.declared.line.WallLine.{WallLine}
 use Rattle.walls.specs.declared.rows.NamedWall.{NamedWall}
-use Rattle.walls.specs.Cells.{Placed}
 use Rattle.walls.specs.Walls.{wall, six, nowhere, Named, WallAfter}
 
 module _ {s : List ℕ} {p : Place} (l : WallLine) (a : WallAfter s p l) (S : List Section) (k : ℕ) where
