@@ -11,7 +11,7 @@ use Rattle.sheet.specs.Shown.{same}
 use Rattle.document.specs.Tests.{weigh}
 use Rattle.document.specs.Rows.{gasRow}
 use Rattle.formulas.specs.Rounding.{Rounding}
-use Rattle.formulas.specs.Tables.{lineOf, lineAt, tableA1}
+use Rattle.formulas.specs.Tables.{rowOf, straightAt, tableA1}
 
 -- 56 because of 18/22.4, 10^17 by the finest product
 abbrev pub joule : ℕ
@@ -27,11 +27,11 @@ sum f (a ∷ l) = f a +ℤ sum f l
 
 -- ---- Specific heat of table A.2, in 1e-7 kJ/(kg·°C), with T in 0.1 °C
 abbrev pub byTable : ℕ → ℤ → ℤ
-byTable i T = lineAt i .a *ℤ pos (10 ^ 5) +ℤ lineAt i .b *ℤ T
+byTable i T = straightAt i .a *ℤ pos (10 ^ 5) +ℤ straightAt i .b *ℤ T
 
 -- code 0 uses c
 unfoldable pub specificHeat : Stuff → ℤ → ℤ
-specificHeat x T = let m = natAbs (x .material) in cond (eqb m 0) (x .c *ℤ pos 1000) (byTable (lineOf m T) T)
+specificHeat x T = let m = natAbs (x .material) in cond (eqb m 0) (x .c *ℤ pos 1000) (byTable (rowOf m T) T)
 
 -- m c (T − T₀), with c at T, the temperature that stands first in the bracket
 unfoldable pub sensible : Rounding → ℤ → Stuff → ℤ → ℤ → ℤ
