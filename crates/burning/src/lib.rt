@@ -2,6 +2,7 @@
 pub mod mixture;
 
 ghost use mathlib.Core.Path.{_≡_};
+ghost use Prim.Native.Nat.{_^_};
 ghost use lib.IntN.{ℤ, pos, _+ℤ_, _*ℤ_};
 ghost use mir.Syntax.{w32};
 ghost use mir.Val.{SFits};
@@ -12,11 +13,11 @@ ghost use Rattle.formulas.specs.Rounding.{paper};
 ghost use Rattle.formulas.specs.Formulas.{joule, totalGas, q1, q2};
 ghost use Rattle.formulas.specs.Figures.{Figure};
 ghost use Rattle.formulas.specs.Sizes.{q1Most, q2Most};
-ghost use Rattle.formulas.specs.Steps.{ProductFits, stagesOf};
+ghost use Rattle.formulas.specs.Steps.{ProductFits, over, stagesOf};
 ghost use Rattle.burning.specs.Mixture.{Warmed};
 ghost use Rattle.burning.specs.Steps.{MixedFits, FuelIn, WarmFuelIn};
 use formulas::block::held;
-use formulas::rounding::Nanojoules;
+use formulas::rounding::Quotient;
 use mixture::Warmth;
 use quantity::gas::CubicMetres;
 use quantity::gas::GasTotal;
@@ -69,11 +70,11 @@ fn mixed_heat(warmth: Warmth, at: Degrees) -> MixedHeat
 }
 
 // Formula 2 before it is rounded.
-fn brought(gas: GasTotal, c: MixedHeat, rise: Rise) -> Nanojoules
+fn brought(gas: GasTotal, c: MixedHeat, rise: Rise) -> Quotient
     requires { ⌜ ProductFits (gas .0) (c .0) (rise .0) ⌝ }
-    ensures { λ r. ⌜ r .0 ≡ gas .0 *ℤ c .0 *ℤ rise .0 ⌝ }
+    ensures { λ r. ⌜ r ≡ over (gas .0 *ℤ c .0 *ℤ rise .0) (10 ^ 9) ⌝ }
 {
-    Nanojoules(gas.0 as i64 * c.0 * rise.0)
+    Quotient(gas.0 as i64 * c.0 * rise.0, 1_000_000_000)
 }
 
 // The fuel's heat above the base temperature.

@@ -1,5 +1,5 @@
 // The formulas of a heat balance and the figures of its report, as definitions; and what the code of the heats shares: a straight line of table A.2,
-// the lines of a block, and the way from exact products to whole joules.
+// the lines of a block, and the way from exact quotients to whole units.
 pub mod block;
 pub mod rounding;
 

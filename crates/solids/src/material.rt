@@ -1,6 +1,6 @@
 // Specific heat by table A.2, and the heat that a mass takes up.
 ghost use mathlib.Core.Path.{_≡_};
-ghost use Prim.Native.Nat.{_≤_};
+ghost use Prim.Native.Nat.{_^_, _≤_};
 ghost use lib.IntN.{ℤ, pos, _+ℤ_, _*ℤ_};
 ghost use mir.Syntax.{w64};
 ghost use mir.Val.{SFits};
@@ -9,10 +9,10 @@ ghost use Rattle.formulas.specs.Rounding.{paper};
 ghost use Rattle.formulas.specs.Formulas.{joule, specificHeat, sensible};
 ghost use Rattle.formulas.specs.Figures.{Exact, Figure};
 ghost use Rattle.formulas.specs.Sizes.{specificHeatMost, sensibleMost};
-ghost use Rattle.formulas.specs.Steps.{ProductFits};
+ghost use Rattle.formulas.specs.Steps.{ProductFits, over};
 ghost use Rattle.solids.specs.Steps.{RowIs, StraightFits, Heated, Warmed};
 use formulas::Straight;
-use formulas::rounding::Microjoules;
+use formulas::rounding::Quotient;
 use quantity::heat::Joules;
 use quantity::heat::SpecificHeat;
 use quantity::kiln::Material;
@@ -80,11 +80,11 @@ fn given(c: SpecificHeat) -> Capacity
 }
 
 // The heat of a mass that grows warmer.
-fn stored(mass: Kilos, c: Capacity, rise: Rise) -> Microjoules
+fn stored(mass: Kilos, c: Capacity, rise: Rise) -> Quotient
     requires { ⌜ ProductFits (mass .0) (c .0) (rise .0) ⌝ }
-    ensures { λ r. ⌜ r .0 ≡ mass .0 *ℤ c .0 *ℤ rise .0 ⌝ }
+    ensures { λ r. ⌜ r ≡ over (mass .0 *ℤ c .0 *ℤ rise .0) (10 ^ 6) ⌝ }
 {
-    Microjoules(mass.0 as i64 * c.0 * rise.0)
+    Quotient(mass.0 as i64 * c.0 * rise.0, 1_000_000)
 }
 
 // The specific heat of a thing at a temperature.
