@@ -6,17 +6,17 @@ ghost use mir.Syntax.{w64};
 ghost use mir.Val.{SFits};
 ghost use Rattle.sheet.specs.Firing.{Firing};
 ghost use Rattle.sheet.specs.Shown.{stage as stageOf};
+ghost use Rattle.sheet.specs.Block.{stagesOf};
 ghost use Rattle.formulas.specs.Rounding.{paper};
 ghost use Rattle.formulas.specs.Formulas.{joule, Burning as AnyBurning, burning as burningIn, x7, x8};
 ghost use Rattle.formulas.specs.Formulas.{vapourRate, vapour, dryHeat, vapourHeat, flueHeat, monoxideHeat};
 ghost use Rattle.formulas.specs.Figures.{Figure};
 ghost use Rattle.formulas.specs.Sizes.{vapourRateMost, vapourMassMost, dryHeatMost, vapourHeatMost, flueHeatMost, monoxideHeatMost};
 ghost use Rattle.formulas.specs.Sizes.{x7Most, x8Most};
-ghost use Rattle.formulas.specs.Steps.{ProductFits, over, stagesOf};
+ghost use Rattle.formulas.specs.Steps.{ProductFits, over};
 ghost use Rattle.burning.specs.Mixture.{burning as burningOf};
 ghost use Rattle.flue.specs.Steps.{DryFits, RateFits, BurnsIn, Volume, FilledIn, DryIn, MoistIn, FlueIn, AllFlueIn};
 use burning::mixture::Burning;
-use formulas::block::held;
 use formulas::rounding::Quotient;
 use quantity::gas::CarbonMonoxide;
 use quantity::gas::CubicMetres;
@@ -27,6 +27,7 @@ use quantity::temperature::Degrees;
 use quantity::temperature::Rise;
 use sheet::Stage;
 use sheet::Stages;
+use sheet::block::held;
 
 // Dry flue gas for a unit of fuel, in 1e-9 m³.
 pub struct DryRate(pub i64);

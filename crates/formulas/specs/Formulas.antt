@@ -8,6 +8,7 @@ use lib.IntN.{ℤ, pos, natAbs, _+ℤ_, _-ℤ_, _*ℤ_}
 use lib.ListN.{getD}
 use Rattle.sheet.specs.Firing.{Stuff, Gas, Stage, Section, Wall, Firing}
 use Rattle.sheet.specs.Shown.{same}
+use Rattle.sheet.specs.Block.{sum, totalGas}
 use Rattle.document.specs.Tests.{weigh}
 use Rattle.document.specs.Rows.{gasRow}
 use Rattle.formulas.specs.Rounding.{Rounding}
@@ -20,10 +21,6 @@ joule = 56 * 10 ^ 17
 -- n k-ths of a joule
 abbrev pub parts : ℕ → ℤ → ℤ
 parts k n = n *ℤ pos (joule / k)
-
-unfoldable pub sum : {A : Type 0} → (A → ℤ) → List A → ℤ
-sum f [] = pos 0
-sum f (a ∷ l) = f a +ℤ sum f l
 
 -- ---- Specific heat of table A.2, in 1e-7 kJ/(kg·°C), with T in 0.1 °C
 abbrev pub byTable : ℕ → ℤ → ℤ
@@ -40,9 +37,6 @@ sensible r m x T T₀ = r .to joule (parts (10 ^ 6) (m *ℤ specificHeat x T *�
 -- ---- Income (2, 4): c of the mixture in 1e-10 kJ/(m³·°C), of each gas on a straight line between 0 and 100 °C
 unfoldable pub mixedHeat : Gas → ℤ → ℤ
 mixedHeat g T = weigh (map (λ k. k .cold *ℤ pos 1000 +ℤ (k .hot -ℤ k .cold) *ℤ T) tableA1) (gasRow g .numbers)
-
-abbrev pub totalGas : List Stage → ℤ
-totalGas l = sum (λ s. s .gas) l
 
 module _ (f : Firing) (r : Rounding) where
   unfoldable pub q1 : ℤ

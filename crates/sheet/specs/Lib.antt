@@ -1,3 +1,4 @@
 pub mod Firing
 pub mod Refusals
 pub mod Shown
+pub mod Block

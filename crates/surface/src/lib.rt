@@ -13,7 +13,6 @@ ghost use Rattle.formulas.specs.Figures.{Exact, Figure};
 ghost use Rattle.formulas.specs.Sizes.{placedMost, warmerMost, convectionMost, radiationMost, fluxMost, wallHeatMost, x9Most};
 ghost use Rattle.formulas.specs.Steps.{over};
 ghost use Rattle.surface.specs.Cells.{FourthFits, DifferenceFits, LostFits, RiseIn, HotIn, WallIn, LostIn, cellHeat, CellIn, Seen};
-use formulas::block::held;
 use formulas::rounding::Quotient;
 use quantity::heat::Joules;
 use quantity::kiln::Area;
@@ -26,6 +25,7 @@ use sheet::Section;
 use sheet::Sections;
 use sheet::Stage;
 use sheet::Stages;
+use sheet::block::held;
 
 // A heat flux, in 1e-5 W/m².
 pub struct Flux(pub i64);
