@@ -1,10 +1,20 @@
 // The stages.
+ghost use mathlib.Core.Path.{_≡_};
+ghost use mathlib.Core.List.{[]};
+ghost use mathlib.Core.Option.{none};
 ghost use Prim.Native.Nat.{_≤_};
 ghost use Rattle.text.specs.Bytes.{bytes};
-ghost use Rattle.document.specs.Reader.{countLine};
-ghost use Rattle.due.specs.Place.{Ready};
-ghost use Rattle.due.specs.Block.{CountAfter};
-ghost use Rattle.blocks.specs.Stages.{StageAfter, StageTakenAs, StagesAfter, StagesRead};
+ghost use Rattle.sheet.specs.Shown.{stage};
+ghost use Rattle.sheet.specs.Blank.{blankStage};
+ghost use Rattle.document.specs.Schema.{plain};
+ghost use Rattle.document.specs.Tests.{free};
+ghost use Rattle.document.specs.Document01.{stageLine};
+ghost use Rattle.document.specs.Reader.{Sheet, countLine, readLine, readRows};
+ghost use Rattle.document.specs.Rows.{stageOf};
+ghost use Rattle.due.specs.Place.{Ready, After};
+ghost use Rattle.due.specs.Taking.{from, Taken};
+ghost use Rattle.due.specs.Block.{CountAfter, Filled};
+ghost use Rattle.blocks.specs.Stages.{StagesRead};
 use due::Place;
 use due::due;
 use due::ranged;
@@ -45,7 +55,7 @@ pub struct StageTaken {
 
 // A stage from the five numbers of its line.
 pub fn stage_of(v: [Number; 13]) -> StageTaken
-    ensures { λ r. ⌜ StageTakenAs v r ⌝ }
+    ensures { λ r. ⌜ Taken (stageLine .fields) (from 0 5 v) (r .fault) (stage (r .stage) ≡ stageOf (plain (from 0 5 v))) ⌝ }
 {
     let n0 = v[0];
     let n1 = v[1];
@@ -82,7 +92,7 @@ pub struct StageLine {
 // One line `stage`.
 pub fn stage_line(s: &[u8], p: Place) -> StageLine
     requires { ⌜ Ready (now s) p ⌝ }
-    ensures { λ r. ⌜ StageAfter (now (s .entry)) p r ⌝ }
+    ensures { λ r. ⌜ After (now (s .entry)) p (readLine stageLine (λ row. none)) (r .place) (λ row. stage (r .stage) ≡ stageOf row) ⌝ }
 {
     let d = due(s, p, b"stage=", 5);
     let v = d.values;
@@ -102,7 +112,7 @@ pub struct StageRows {
 pub fn stage_rows(s: &[u8], start: Place, k: usize) -> StageRows
     requires { ⌜ k ≤ 12 ⌝ }
     requires { ⌜ Ready (now s) start ⌝ }
-    ensures { λ r. ⌜ StagesAfter (now (s .entry)) start k r ⌝ }
+    ensures { λ r. ⌜ ((seen : Sheet) → After (now (s .entry)) start (readRows k stageLine free seen []) (r .place) (Filled stage stageOf blankStage 12 k (r .lines))) ⌝ }
 {
     let none = sheet::blank::stage();
     let mut lines = [none; 12];

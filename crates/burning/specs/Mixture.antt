@@ -22,7 +22,7 @@ pub record WarmthFits (m : Warmth) (k : Kind) (share : ℤ) : Type 0 where
   pub cold : Fits (m .cold) (k .cold) share
   pub rise : Fits (m .rise) (k .hot -ℤ k .cold) share
 
-pub record Warmer (m : Warmth) (k : Kind) (share : ℤ) (r : Warmth) : Type 0 where
+pub record WarmthWith (m : Warmth) (k : Kind) (share : ℤ) (r : Warmth) : Type 0 where
   pub cold : r .cold ≡ m .cold +ℤ k .cold *ℤ share
   pub rise : r .rise ≡ m .rise +ℤ (k .hot -ℤ k .cold) *ℤ share
 
@@ -38,7 +38,7 @@ pub record BurningFits (m : Burningˢ) (k : Kind) (share : ℤ) : Type 0 where
   pub dry : Fits (m .dry) (k .dry) share
   pub vapour : Fits (m .vapour) (k .vapour) share
 
-pub record Brighter (m : Burningˢ) (k : Kind) (share : ℤ) (r : Burningˢ) : Type 0 where
+pub record BurningWith (m : Burningˢ) (k : Kind) (share : ℤ) (r : Burningˢ) : Type 0 where
   pub air : r .air ≡ m .air +ℤ k .air *ℤ share
   pub dry : r .dry ≡ m .dry +ℤ k .dry *ℤ share
   pub vapour : r .vapour ≡ m .vapour +ℤ k .vapour *ℤ share

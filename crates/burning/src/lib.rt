@@ -2,55 +2,27 @@
 pub mod mixture;
 
 ghost use mathlib.Core.Path.{_≡_};
+ghost use Prim.Native.Nat.{_^_};
 ghost use lib.IntN.{ℤ, pos, _+ℤ_, _*ℤ_};
-ghost use mir.Syntax.{w32};
-ghost use mir.Val.{SFits};
 ghost use Rattle.sheet.specs.Firing.{Firing};
-ghost use Rattle.document.specs.Rules.{Every};
-ghost use Rattle.document.specs.Limits.{StageIn};
+ghost use Rattle.sheet.specs.Block.{totalGas};
 ghost use Rattle.formulas.specs.Rounding.{paper};
-ghost use Rattle.formulas.specs.Formulas.{joule, totalGas, q1, q2};
+ghost use Rattle.formulas.specs.Formulas.{joule, q1, q2};
 ghost use Rattle.formulas.specs.Figures.{Figure};
 ghost use Rattle.formulas.specs.Sizes.{q1Most, q2Most};
-ghost use Rattle.formulas.specs.Steps.{ProductFits, stagesOf};
+ghost use Rattle.formulas.specs.Steps.{ProductFits, over};
 ghost use Rattle.burning.specs.Mixture.{Warmed};
 ghost use Rattle.burning.specs.Steps.{MixedFits, FuelIn, WarmFuelIn};
-use formulas::block::held;
-use formulas::rounding::Nanojoules;
+use formulas::rounding::Quotient;
 use mixture::Warmth;
-use quantity::gas::CubicMetres;
 use quantity::gas::GasTotal;
 use quantity::heat::HeatingValue;
 use quantity::heat::Joules;
 use quantity::temperature::Degrees;
 use quantity::temperature::Rise;
-use sheet::Stages;
 
 // The specific heat of the fuel at a temperature, in 1e-10 kJ/(m³·°C).
 pub struct MixedHeat(pub i64);
-
-// The gas of one stage more.
-fn more(sum: GasTotal, gas: CubicMetres) -> GasTotal
-    requires { ⌜ SFits w32 (sum .0 +ℤ gas .0) ⌝ }
-    ensures { λ r. ⌜ r .0 ≡ sum .0 +ℤ gas .0 ⌝ }
-{
-    GasTotal(sum.0 + gas.0)
-}
-
-// The gas of all stages.
-pub fn total_gas(stages: Stages) -> GasTotal
-    requires { ⌜ Every StageIn (stagesOf stages) ⌝ }
-    ensures { λ r. ⌜ r .0 ≡ totalGas (stagesOf stages) ⌝ }
-{
-    let lines = stages.lines;
-    let count = held(stages.count.0, 12);
-    let mut sum = GasTotal(0);
-    for i in 0..count {
-        let stage = lines[i];
-        sum = more(sum, stage.gas);
-    }
-    sum
-}
 
 // The heat of burning.
 pub fn q1(gas: GasTotal, heating: HeatingValue) -> Joules
@@ -69,11 +41,11 @@ fn mixed_heat(warmth: Warmth, at: Degrees) -> MixedHeat
 }
 
 // Formula 2 before it is rounded.
-fn brought(gas: GasTotal, c: MixedHeat, rise: Rise) -> Nanojoules
+fn brought(gas: GasTotal, c: MixedHeat, rise: Rise) -> Quotient
     requires { ⌜ ProductFits (gas .0) (c .0) (rise .0) ⌝ }
-    ensures { λ r. ⌜ r .0 ≡ gas .0 *ℤ c .0 *ℤ rise .0 ⌝ }
+    ensures { λ r. ⌜ r ≡ over (gas .0 *ℤ c .0 *ℤ rise .0) (10 ^ 9) ⌝ }
 {
-    Nanojoules(gas.0 as i64 * c.0 * rise.0)
+    Quotient(gas.0 as i64 * c.0 * rise.0, 1_000_000_000)
 }
 
 // The fuel's heat above the base temperature.

@@ -1,7 +1,7 @@
 // The fuel as a mixture of gases: its specific heat, the air that it asks and the flue that it gives.
 ghost use Rattle.sheet.specs.Shown.{gas as gasOf};
 ghost use Rattle.document.specs.Limits.{GasIn};
-ghost use Rattle.burning.specs.Mixture.{WarmthFits, Warmer, Warmed, BurningFits, Brighter, Burns};
+ghost use Rattle.burning.specs.Mixture.{WarmthFits, WarmthWith, Warmed, BurningFits, BurningWith, Burns};
 use quantity::gas::Share;
 
 // What the shares come to in specific heat: c at 0 °C and its rise to 100 °C, in 1e-7 kJ/(m³·°C).
@@ -123,9 +123,9 @@ const TABLE_A1: [Kind; 13] = [
 ];
 
 // The specific heat with one gas more.
-fn warmer(sum: Warmth, kind: Kind, share: Share) -> Warmth
+fn warmth_with(sum: Warmth, kind: Kind, share: Share) -> Warmth
     requires { ⌜ WarmthFits sum kind (share .0) ⌝ }
-    ensures { λ r. ⌜ Warmer sum kind (share .0) r ⌝ }
+    ensures { λ r. ⌜ WarmthWith sum kind (share .0) r ⌝ }
 {
     let hundredths = share.0 as i64;
     Warmth {
@@ -143,15 +143,15 @@ pub fn warmth_of(gas: [Share; 13]) -> Warmth
     let mut sum = Warmth { cold: 0, rise: 0 };
     for i in 0..13 {
         let kind = kinds[i];
-        sum = warmer(sum, kind, gas[i]);
+        sum = warmth_with(sum, kind, gas[i]);
     }
     sum
 }
 
 // The burning with one gas more.
-fn brighter(sum: Burning, kind: Kind, share: Share) -> Burning
+fn burning_with(sum: Burning, kind: Kind, share: Share) -> Burning
     requires { ⌜ BurningFits sum kind (share .0) ⌝ }
-    ensures { λ r. ⌜ Brighter sum kind (share .0) r ⌝ }
+    ensures { λ r. ⌜ BurningWith sum kind (share .0) r ⌝ }
 {
     let hundredths = share.0 as i64;
     Burning {
@@ -174,7 +174,7 @@ pub fn burning_of(gas: [Share; 13]) -> Burning
     };
     for i in 0..13 {
         let kind = kinds[i];
-        sum = brighter(sum, kind, gas[i]);
+        sum = burning_with(sum, kind, gas[i]);
     }
     sum
 }

@@ -1,7 +1,7 @@
 -- Demand 3: the proof of a heat follows its formula, and how far the heat is off is computed along the way; a side is off by what its items are.
 -- What is allowed is asked once, at the end; the nearest to it is x11, 323.5 J of 350. Assumes nothing.
 use Prim.Native.Nat.{ℕ, zero, suc, _+_, _*_, _/_, _^_, _-_, _≤_, _<_}
-use mathlib.Core.Path.{_≡_, ap, subst}
+use mathlib.Core.Path.{_≡_, ap}
 use mathlib.Core.Bool.{Bool, true, false, cond, _&&_}
 use mathlib.Core.List.{List, [], _∷_, _++_, map}
 use native.Mathlib.Nat.{le-trans, mul-le-mul, mul-le-mul-left, mul-le-mul-right}
@@ -18,15 +18,15 @@ use Rattle.arith.proofs.Machine.{range, arg, _⟨-⟩_, bound}
 use Rattle.arith.proofs.RootLaws.{root-is}
 use Rattle.sheet.specs.Firing.{Stage, Section, Firing}
 use Rattle.sheet.specs.Shown.{same as alike}
+use Rattle.sheet.specs.Block.{sum, totalGas}
 use Rattle.document.specs.Quantities.{product, ambient, heating, flue, monoxide, gasTotal}
 use Rattle.document.specs.Rules.{Every}
 use Rattle.document.specs.Rows.{firingOf}
 use Rattle.document.specs.Limits.{In, StageIn, SectionIn, Limits}
 use Rattle.document.proofs.Editions.{firing-limits}
 use Rattle.formulas.specs.Rounding.{Rounding, paper}
-use Rattle.formulas.specs.Formulas.{joule, sum, sensible, totalGas, q1, q2, q3, q5, q8, x1, x2, x3, x5, x10, dryFlue, vapourRate, vapour, dryHeat, vapourHeat, flueHeat, monoxideHeat, x7, x8, noStage, numbered, sectionOf, stageOf, convection, radiation, flux, wallHeat, x9, waterHeat, useful, withset}
+use Rattle.formulas.specs.Formulas.{joule, sensible, q1, q2, q3, q5, q8, x1, x2, x3, x5, x10, dryFlue, vapourRate, vapour, dryHeat, vapourHeat, flueHeat, monoxideHeat, x7, x8, noStage, numbered, sectionOf, stageOf, convection, radiation, flux, wallHeat, x9, waterHeat, useful, withset}
 use Rattle.formulas.specs.Items.{Quantity, Item, item, Sides, shuttle, total, x11, heats}
-use Rattle.formulas.proofs.Sums.{sum-of}
 use Rattle.formulas.specs.Report.{Line, number, heat, share, itemLine, shares, lines, printed}
 use Rattle.distance.specs.Demand.{Stand, cutDown, oneMore, standIn, Enclosed, Choice, against, surface, thousand, allowed, leeway, Within, Near, Demand3}
 use Rattle.distance.proofs.Off.{Off, Size, same, one-more, _⊞_, _⊟_, _⊠_, times, per, per-both, rounded, settled, summed, records}
@@ -41,7 +41,7 @@ stand-off oneMore n = one-more
 
 -- ---- THE LIMITS, as the formulas meet them. The gas of all stages
 gas-in : {f : Firing} → Limits f → In gasTotal (totalGas (f .stages))
-gas-in {f} h = subst (In gasTotal) (sum-of (λ s. s .gas) (f .stages)) (h .total)
+gas-in h = h .total
 
 -- a reading's area and minutes, found or not
 area-least : (n : ℤ) (l : List Section) → Every SectionIn l → pos 0 ≤ℤ numbered n l .area

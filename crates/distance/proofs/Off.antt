@@ -12,8 +12,8 @@ use Rattle.arith.specs.Nearest.{nearest}
 use Rattle.arith.proofs.Ring.{v, #, _⊕_, _⊖_, _⊗_, ⊝, ring}
 use Rattle.arith.proofs.Order.{bound-add, bound-sub, bound-mul, +ℤ-mono}
 use Rattle.arith.proofs.NearestLaws.{nearest-error}
+use Rattle.sheet.specs.Block.{sum}
 use Rattle.document.specs.Rules.{Every}
-use Rattle.formulas.specs.Formulas.{sum}
 
 -- |x − y| ≤ flat + rate · w: so much in any case, and so much for each unit of a weight w, be it gas or surface
 pub record Off (w flat rate : ℕ) (x y : ℤ) : Type 0 where

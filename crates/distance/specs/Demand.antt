@@ -8,12 +8,13 @@ use lib.IntN.{ℤ, pos, natAbs, _-ℤ_, _*ℤ_}
 use Rattle.arith.specs.Root.{root}
 use Rattle.text.specs.Bytes.{bytes}
 use Rattle.sheet.specs.Firing.{Wall, Firing}
+use Rattle.sheet.specs.Block.{sum}
 use Rattle.document.specs.Reader.{Sheet, Good, readOf, sameKey}
 use Rattle.document.specs.Editions.{document}
 use Rattle.document.specs.Rules.{Every}
 use Rattle.document.specs.Rows.{firingOf}
 use Rattle.formulas.specs.Rounding.{Rounding, square, exact}
-use Rattle.formulas.specs.Formulas.{sum, sectionOf, stageOf}
+use Rattle.formulas.specs.Formulas.{sectionOf, stageOf}
 use Rattle.formulas.specs.Items.{sidesOf}
 use Rattle.formulas.specs.Report.{Figure, number, heat, share, Line, lines, Fraction, fraction, printed}
 

@@ -2,7 +2,7 @@
 -- Assumes nothing.
 use Prim.Native.Nat.{ℕ, zero, suc, _+_, _≤_}
 use mathlib.Core.Path.{_≡_, refl, sym, ap}
-use mathlib.Core.List.{List, [], _∷_, map}
+use mathlib.Core.List.{List, [], _∷_}
 use mathlib.Core.Logic.{_⊎_, inl, inr, ⊎-elim}
 use mathlib.Core.Option.{Option, none, some}
 use mathlib.Core.Bool.{Bool, true, false, _&&_, _||_, not}
@@ -16,6 +16,7 @@ use Rattle.sheet.specs.declared.Refusal.{Refusal}
 use Rattle.sheet.specs.declared.Refusal.the-variants.{Material, Shares, SectionTwice, NoSuchWall, ReadTwice, Missing, Colder, GasTotal}
 use Rattle.sheet.specs.Shown.{same}
 use Rattle.sheet.specs.Firing.{Stage, Section, Wall}
+use Rattle.sheet.specs.Block.{totalGas}
 use Rattle.document.specs.Schema.{Row, at, within}
 use Rattle.document.specs.Reader.{Sheet}
 use Rattle.document.specs.Quantities.{gasTotal}
@@ -184,8 +185,8 @@ module _ (stages : List Stage) (sections : List Section) (above : List Wall) (w 
 
 -- OF THE WHOLE SHEET, and 10 before 8
 module _ (stages : List Stage) (sections : List Section) (walls : List Wall) where
-  total-test : Tests (within gasTotal (sumOf (map (λ x. x .gas) stages))) (TotalKeeps stages)
-  total-test = let total = sumOf (map (λ x. x .gas) stages) in tests-and (tests-le (gasTotal .least) total) (tests-le total (gasTotal .greatest))
+  total-test : Tests (within gasTotal (totalGas stages)) (TotalKeeps stages)
+  total-test = let total = totalGas stages in tests-and (tests-le (gasTotal .least) total) (tests-le total (gasTotal .greatest))
 
   all-read-test : Tests (all (λ x. all (isRead walls (x .number)) (counted (length stages))) sections) (AllRead stages sections walls)
   all-read-test = tests-all (λ x. tests-counted (read-test walls (x .number)) (length stages)) sections

@@ -2,11 +2,12 @@
 -- `sheet-limits` derives it from the rules.
 use Prim.Native.Nat.{_≤_}
 use mathlib.Core.Path.{_≡_}
-use mathlib.Core.List.{List, map}
+use mathlib.Core.List.{List}
 use lib.ListN.{length}
 use lib.IntN.{ℤ, pos}
 use lib.Signed.{_≤ℤ_, _<ℤ_}
 use Rattle.sheet.specs.Firing.{Stuff, Gas, Ware, Water, Stage, Setter, Part, Section, Wall, Firing}
+use Rattle.sheet.specs.Block.{totalGas}
 use Rattle.document.specs.Schema.{Field}
 use Rattle.document.specs.Quantities.{product, ambient, heating, fuelTemperature, share, moisture, mass, temperature, material, capacity, flue, cubicMetres, excess, monoxide, minutes, sectionNumber, place, area, stageNumber, surface, nearAir, gasTotal, stagesMost, settersMost, partsMost, sectionsMost, wallsMost}
 use Rattle.document.specs.Tests.{sumOf, weigh, airWeights}
@@ -87,7 +88,7 @@ pub record Limits (f : Firing) : Type 0 where
   pub clay : In mass (f .clay)
   pub stages : Every StageIn (f .stages)
   pub stagesMost : length (f .stages) ≤ stagesMost
-  pub total : In gasTotal (sumOf (map (λ x. x .gas) (f .stages)))
+  pub total : In gasTotal (totalGas (f .stages))
   pub setters : Every SetterIn (f .setters)
   pub settersMost : length (f .setters) ≤ settersMost
   pub parts : Every PartIn (f .parts)

@@ -1,13 +1,14 @@
 -- Document 01's rules in plain words, without tests: what the rules of a line and of the whole sheet ask.
 use Prim.Native.Nat.{ℕ, _+_, _≤_}
 use mathlib.Core.Path.{_≡_}
-use mathlib.Core.List.{List, [], _∷_, map}
+use mathlib.Core.List.{List, [], _∷_}
 use mathlib.Core.Logic.{_⊎_}
 use lib.ListN.{length}
 use lib.IntN.{ℤ, pos}
 use lib.Signed.{_≤ℤ_, _<ℤ_}
 use Rattle.text.specs.Bytes.{bytes}
 use Rattle.sheet.specs.Firing.{Stage, Section, Wall}
+use Rattle.sheet.specs.Block.{totalGas}
 use Rattle.document.specs.Schema.{Row, at}
 use Rattle.document.specs.Reader.{Sheet, rowsOf}
 use Rattle.document.specs.Quantities.{gasTotal}
@@ -65,7 +66,7 @@ AllRead stages sections walls = Every (λ x. (j : ℕ) → 1 ≤ j → j ≤ len
 -- 10: the gas of all stages
 abbrev pub TotalKeeps : List Stage → Type 0
 TotalKeeps stages =
-    let total = sumOf (map (λ x. x .gas) stages) in
+    let total = totalGas stages in
     (gasTotal .least ≤ℤ total) × (total ≤ℤ gasTotal .greatest)
 
 -- ALL RULES but form and range, in the order of their numbers: what a whole sheet must keep

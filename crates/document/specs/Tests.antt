@@ -1,6 +1,6 @@
 -- Document 01's rules as tests: what a line must keep beyond form and range, and what the whole sheet must. The plain words are in `Rules`.
 use Prim.Native.Nat.{ℕ, zero, suc, _+_}
-use mathlib.Core.List.{List, [], _∷_, map}
+use mathlib.Core.List.{List, [], _∷_}
 use mathlib.Core.Option.{Option, none, some}
 use mathlib.Core.Bool.{Bool, true, false, _&&_, _||_, not}
 use lib.ListN.{length}
@@ -10,6 +10,7 @@ use Rattle.sheet.specs.declared.Refusal.{Refusal}
 use Rattle.sheet.specs.declared.Refusal.the-variants.{Material, Shares, SectionTwice, NoSuchWall, ReadTwice, Missing, Colder, GasTotal}
 use Rattle.sheet.specs.Shown.{same}
 use Rattle.sheet.specs.Firing.{Stage, Section, Wall}
+use Rattle.sheet.specs.Block.{totalGas}
 use Rattle.document.specs.Schema.{at, within}
 use Rattle.document.specs.Reader.{Sheet, Rule}
 use Rattle.document.specs.Quantities.{gasTotal}
@@ -91,7 +92,7 @@ counted (suc n) = pos (suc n) ∷ counted n
 
 abbrev pub wholeFault : List Stage → List Section → List Wall → Option Refusal
 wholeFault stages sections walls =
-    when (not (within gasTotal (sumOf (map (λ x. x .gas) stages)))) GasTotal
+    when (not (within gasTotal (totalGas stages))) GasTotal
     else when (not (all (λ x. all (isRead walls (x .number)) (counted (length stages))) sections)) Missing
 
 abbrev pub whole-rule : Sheet → Option Refusal

@@ -4,21 +4,20 @@ ghost use Prim.Native.Nat.{_*_, _^_};
 ghost use lib.IntN.{ℤ, pos, _+ℤ_, _-ℤ_, _*ℤ_};
 ghost use mir.Syntax.{w64};
 ghost use mir.Val.{SFits};
-ghost use Rattle.arith.specs.Nearest.{nearest};
 ghost use Rattle.sheet.specs.Firing.{Firing};
 ghost use Rattle.sheet.specs.Shown.{stage as stageOf};
+ghost use Rattle.sheet.specs.Block.{stagesOf};
 ghost use Rattle.formulas.specs.Rounding.{paper};
 ghost use Rattle.formulas.specs.Formulas.{joule, Burning as AnyBurning, burning as burningIn, x7, x8};
 ghost use Rattle.formulas.specs.Formulas.{vapourRate, vapour, dryHeat, vapourHeat, flueHeat, monoxideHeat};
 ghost use Rattle.formulas.specs.Figures.{Figure};
 ghost use Rattle.formulas.specs.Sizes.{vapourRateMost, vapourMassMost, dryHeatMost, vapourHeatMost, flueHeatMost, monoxideHeatMost};
 ghost use Rattle.formulas.specs.Sizes.{x7Most, x8Most};
-ghost use Rattle.formulas.specs.Steps.{ProductFits, stagesOf};
+ghost use Rattle.formulas.specs.Steps.{ProductFits, over};
 ghost use Rattle.burning.specs.Mixture.{burning as burningOf};
 ghost use Rattle.flue.specs.Steps.{DryFits, RateFits, BurnsIn, Volume, FilledIn, DryIn, MoistIn, FlueIn, AllFlueIn};
 use burning::mixture::Burning;
-use formulas::block::held;
-use formulas::rounding::Microjoules;
+use formulas::rounding::Quotient;
 use quantity::gas::CarbonMonoxide;
 use quantity::gas::CubicMetres;
 use quantity::gas::ExcessAir;
@@ -28,54 +27,22 @@ use quantity::temperature::Degrees;
 use quantity::temperature::Rise;
 use sheet::Stage;
 use sheet::Stages;
+use sheet::block::held;
 
 // Dry flue gas for a unit of fuel, in 1e-9 m³.
 pub struct DryRate(pub i64);
 
-// Dry flue gas of a stage: exact, in 1e-10 m³, and rounded, in 1e-5 m³.
-pub struct DryExact(pub i64);
-
+// Dry flue gas of a stage, in 1e-5 m³.
 pub struct DryFlue(pub i64);
 
-// Vapour for a unit of fuel: exact, in 1e-16/56 kg, and rounded, in 1e-9 kg.
-pub struct RateExact(pub i64);
-
+// Vapour for a unit of fuel, in 1e-9 kg.
 pub struct VapourRate(pub i64);
 
 // Specific heat of dry flue gas, in 0.001 kJ/(m³·°C).
 pub struct FlueCapacity(pub i64);
 
-// Vapour of a stage: exact, in 1e-10 kg, and rounded, in 1e-6 kg.
-pub struct VapourExact(pub i64);
-
+// Vapour of a stage, in 1e-6 kg.
 pub struct VapourMass(pub i64);
-
-impl DryExact {
-    // To the nearest 1e-5 m³.
-    fn rounded(self) -> DryFlue
-        ensures { λ r. ⌜ r .0 ≡ nearest (self .0) 100000 ⌝ }
-    {
-        DryFlue(arith::nearest(self.0, 100_000))
-    }
-}
-
-impl RateExact {
-    // To the nearest 1e-9 kg.
-    fn rounded(self) -> VapourRate
-        ensures { λ r. ⌜ r .0 ≡ nearest (self .0) (56 * 10 ^ 7) ⌝ }
-    {
-        VapourRate(arith::nearest(self.0, 560_000_000))
-    }
-}
-
-impl VapourExact {
-    // To the nearest 1e-6 kg.
-    fn rounded(self) -> VapourMass
-        ensures { λ r. ⌜ r .0 ≡ nearest (self .0) 10000 ⌝ }
-    {
-        VapourMass(arith::nearest(self.0, 10_000))
-    }
-}
 
 // Formula B.10 with B.4 put in: the dry flue gas for a unit of fuel.
 fn dry_rate(burning: Burning, excess: ExcessAir) -> DryRate
@@ -86,11 +53,11 @@ fn dry_rate(burning: Burning, excess: ExcessAir) -> DryRate
 }
 
 // The dry flue gas of all fuel of a stage.
-fn dry_exact(gas: CubicMetres, rate: DryRate) -> DryExact
+fn dry_exact(gas: CubicMetres, rate: DryRate) -> Quotient
     requires { ⌜ SFits w64 (gas .0 *ℤ rate .0) ⌝ }
-    ensures { λ r. ⌜ r .0 ≡ gas .0 *ℤ rate .0 ⌝ }
+    ensures { λ r. ⌜ r ≡ over (gas .0 *ℤ rate .0) (10 ^ 5) ⌝ }
 {
-    DryExact(gas.0 as i64 * rate.0)
+    Quotient(gas.0 as i64 * rate.0, 100_000)
 }
 
 // The dry flue gas of a stage.
@@ -98,15 +65,22 @@ fn dry_flue(burning: Burning, stage: Stage) -> DryFlue
     requires { ⌜ BurnsIn (burningOf burning) (stageOf stage) ⌝ }
     ensures { λ r. ⌜ Volume (burningOf burning) (stageOf stage) (r .0) ⌝ }
 {
-    dry_exact(stage.gas, dry_rate(burning, stage.excess)).rounded()
+    DryFlue(
+        dry_exact(stage.gas, dry_rate(burning, stage.excess))
+            .units()
+            .0,
+    )
 }
 
 // Formula B.15.
-fn rate_exact(burning: Burning, moisture: Moisture, stage: Stage) -> RateExact
+fn rate_exact(burning: Burning, moisture: Moisture, stage: Stage) -> Quotient
     requires { ⌜ RateFits (stage .excess .0) (burning .air) (moisture .0) (burning .vapour) ⌝ }
-    ensures { λ r. ⌜ r .0 ≡ pos 1293 *ℤ stage .excess .0 *ℤ burning .air *ℤ moisture .0 *ℤ pos 56 +ℤ burning .vapour ⌝ }
+    ensures { λ r. ⌜ r ≡ over (pos 1293 *ℤ stage .excess .0 *ℤ burning .air *ℤ moisture .0 *ℤ pos 56 +ℤ burning .vapour) (56 * 10 ^ 7) ⌝ }
 {
-    RateExact(1293 * stage.excess.0 as i64 * burning.air * moisture.0 as i64 * 56 + burning.vapour)
+    Quotient(
+        1293 * stage.excess.0 as i64 * burning.air * moisture.0 as i64 * 56 + burning.vapour,
+        560_000_000,
+    )
 }
 
 // The vapour for a unit of fuel.
@@ -114,15 +88,15 @@ fn vapour_rate(burning: Burning, moisture: Moisture, stage: Stage) -> VapourRate
     requires { ⌜ MoistIn (burningOf burning) (moisture .0) (stageOf stage) ⌝ }
     ensures { λ r. ⌜ Figure (56 * 10 ^ 7) vapourRateMost (r .0) (vapourRate paper (burningOf burning) (moisture .0) (stageOf stage)) ⌝ }
 {
-    rate_exact(burning, moisture, stage).rounded()
+    VapourRate(rate_exact(burning, moisture, stage).units().0)
 }
 
 // The vapour of all gas of a stage, from the rounded rate.
-fn vapour_exact(rate: VapourRate, gas: CubicMetres) -> VapourExact
+fn vapour_exact(rate: VapourRate, gas: CubicMetres) -> Quotient
     requires { ⌜ SFits w64 (rate .0 *ℤ gas .0) ⌝ }
-    ensures { λ r. ⌜ r .0 ≡ rate .0 *ℤ gas .0 ⌝ }
+    ensures { λ r. ⌜ r ≡ over (rate .0 *ℤ gas .0) (10 ^ 4) ⌝ }
 {
-    VapourExact(rate.0 * gas.0 as i64)
+    Quotient(rate.0 * gas.0 as i64, 10_000)
 }
 
 // The vapour of a stage.
@@ -130,15 +104,19 @@ fn vapour(burning: Burning, moisture: Moisture, stage: Stage) -> VapourMass
     requires { ⌜ MoistIn (burningOf burning) (moisture .0) (stageOf stage) ⌝ }
     ensures { λ r. ⌜ Figure (56 * 10 ^ 11) vapourMassMost (r .0) (vapour paper (burningOf burning) (moisture .0) (stageOf stage)) ⌝ }
 {
-    vapour_exact(vapour_rate(burning, moisture, stage), stage.gas).rounded()
+    VapourMass(
+        vapour_exact(vapour_rate(burning, moisture, stage), stage.gas)
+            .units()
+            .0,
+    )
 }
 
 // V c (flue − t) of the dry flue gas.
-fn dry_carried(volume: DryFlue, c: FlueCapacity, rise: Rise) -> Microjoules
+fn dry_carried(volume: DryFlue, c: FlueCapacity, rise: Rise) -> Quotient
     requires { ⌜ ProductFits (volume .0) (c .0) (rise .0) ⌝ }
-    ensures { λ r. ⌜ r .0 ≡ volume .0 *ℤ c .0 *ℤ rise .0 ⌝ }
+    ensures { λ r. ⌜ r ≡ over (volume .0 *ℤ c .0 *ℤ rise .0) (10 ^ 6) ⌝ }
 {
-    Microjoules(volume.0 * c.0 * rise.0)
+    Quotient(volume.0 * c.0 * rise.0, 1_000_000)
 }
 
 // The heat of a stage's dry flue gas.
@@ -152,11 +130,11 @@ fn dry_heat(volume: DryFlue, c: FlueCapacity, stage: Stage, t: Degrees) -> Joule
 }
 
 // m c (flue − t) of the vapour.
-fn vapour_carried(mass: VapourMass, rise: Rise) -> Microjoules
+fn vapour_carried(mass: VapourMass, rise: Rise) -> Quotient
     requires { ⌜ ProductFits (mass .0) (pos 193) (rise .0) ⌝ }
-    ensures { λ r. ⌜ r .0 ≡ mass .0 *ℤ pos 193 *ℤ rise .0 ⌝ }
+    ensures { λ r. ⌜ r ≡ over (mass .0 *ℤ pos 193 *ℤ rise .0) (10 ^ 6) ⌝ }
 {
-    Microjoules(mass.0 * 193 * rise.0)
+    Quotient(mass.0 * 193 * rise.0, 1_000_000)
 }
 
 // The heat of a stage's vapour.
@@ -169,11 +147,11 @@ fn vapour_heat(burning: Burning, moisture: Moisture, stage: Stage, t: Degrees) -
 }
 
 // V CO 12750, with CO as a fraction.
-fn unburnt(volume: DryFlue, co: CarbonMonoxide) -> Microjoules
+fn unburnt(volume: DryFlue, co: CarbonMonoxide) -> Quotient
     requires { ⌜ ProductFits (volume .0) (co .0) (pos 12750) ⌝ }
-    ensures { λ r. ⌜ r .0 ≡ volume .0 *ℤ co .0 *ℤ pos 12750 ⌝ }
+    ensures { λ r. ⌜ r ≡ over (volume .0 *ℤ co .0 *ℤ pos 12750) (10 ^ 6) ⌝ }
 {
-    Microjoules(volume.0 * co.0 as i64 * 12_750)
+    Quotient(volume.0 * co.0 as i64 * 12_750, 1_000_000)
 }
 
 // Formula 23: the heat that a stage's carbon monoxide would have given.

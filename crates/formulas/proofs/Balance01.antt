@@ -4,8 +4,9 @@ use mathlib.Core.List.{[], _∷_}
 use lib.IntN.{_+ℤ_, _-ℤ_}
 use Rattle.arith.proofs.Ring.{v, #, _⊕_, ring}
 use Rattle.sheet.specs.Firing.{Firing}
+use Rattle.sheet.specs.Block.{sum}
 use Rattle.formulas.specs.Rounding.{Rounding}
-use Rattle.formulas.specs.Formulas.{sum, q1, q2, q3, q5, q8, x1, x2, x3, x5, x7, x8, x9, x10, useful, withset}
+use Rattle.formulas.specs.Formulas.{q1, q2, q3, q5, q8, x1, x2, x3, x5, x7, x8, x9, x10, useful, withset}
 use Rattle.formulas.specs.Items.{shuttle, total, x11, heats}
 use Rattle.formulas.specs.Report.{number, heat, share, line, lines}
 

@@ -1,44 +1,22 @@
--- Sums over the first lines of an array, one line more at a time. Assumes nothing.
+-- Figures summed over the first lines of an array, and how large they grow. Assumes nothing.
 use Prim.Native.Nat.{ℕ, zero, suc, _+_, _*_, _^_, _≤_, _<_, min}
-use mathlib.Core.Path.{_≡_, refl, sym, ap, _∙_, subst}
+use mathlib.Core.Path.{_≡_, sym, ap, _∙_, subst}
 use mathlib.Core.List.{List, [], _∷_, map}
 use native.Mathlib.Nat.{le-trans, mul-le-mul-right, lt-of-le-of-lt, le-of-suc-le-suc, not-suc-le-zero}
-use native.Mathlib.Decide.{decLe}
 use native.Mathlib.Numerals.{add-one}
 use native.Mathlib.Omega.{arith}
 use lib.Dec.{T, ltb, ltb→lt}
 use lib.IntN.{ℤ, pos, natAbs, _+ℤ_}
-use lib.ListN.{length, getD, take, length-map}
-use lib.Seq.{take-all, take-length}
+use lib.ListN.{length, getD, take}
 use mir.Syntax.{Width}
 use mir.Val.{SFits, hbits}
-use Rattle.arith.proofs.Ring.{v, #, _⊕_, _⊗_, ring}
+use Rattle.arith.proofs.Ring.{v, #, _⊗_, ring}
 use Rattle.arith.proofs.Order.{bound-add, sfits-abs}
-use Rattle.sheet.specs.declared.Stage.{Stage as Stageˢ}
-use Rattle.document.specs.Tests.{sumOf}
+use Rattle.sheet.specs.Block.{sum}
+use Rattle.sheet.proofs.Sums.{first, next, held}
 use Rattle.document.specs.Rules.{Every}
-use Rattle.formulas.specs.Formulas.{sum}
 use Rattle.formulas.specs.Figures.{Is, Figure}
 use Rattle.formulas.proofs.Units.{plus}
-
-module _ {A B : Type 0} (f : B → ℤ) (g : A → B) where
-  -- the sum over the first i lines
-  abbrev pub first : List A → ℕ → ℤ
-  first l i = sum f (map g (take i l))
-
-  next : (l : List A) (i : ℕ) (d : A) → i < length l → first l (suc i) ≡ first l i +ℤ f (g (getD l i d))
-  unfolding sum
-  next [] i d h = absurd (not-suc-le-zero h)
-  next (a ∷ l) zero d h = ring (f (g a) ∷ []) (v 0 ⊕ # 0) (# 0 ⊕ v 0) tt
-  next (a ∷ l) (suc i) d h =
-      ap (λ (z : ℤ). f (g a) +ℤ z) (next l i d (le-of-suc-le-suc h))
-      ∙ ring (f (g a) ∷ first l i ∷ f (g (getD l i d)) ∷ []) (v 0 ⊕ (v 1 ⊕ v 2)) (v 0 ⊕ v 1 ⊕ v 2) tt
-
--- the sum of the sheet's rules is the sum of the formulas
-pub sum-of : {A : Type 0} (g : A → ℤ) (l : List A) → sumOf (map g l) ≡ sum g l
-unfolding sum
-sum-of g [] = refl
-sum-of g (a ∷ l) = ap (λ (z : ℤ). g a +ℤ z) (sum-of g l)
 
 -- what holds of each of the first n lines
 pub each : {A B : Type 0} (P : B → Type 0) (g : A → B) (l : List A) (n i : ℕ) (d : A) → Every P (map g (take n l)) → i < n → i < length l → P (g (getD l i d))
@@ -46,18 +24,6 @@ each P g [] n i d p h k = absurd (not-suc-le-zero k)
 each P g (a ∷ l) zero i d p h k = absurd (not-suc-le-zero h)
 each P g (a ∷ l) (suc n) zero d p h k = p .0
 each P g (a ∷ l) (suc n) (suc i) d p h k = each P g l n i d (p .1) (le-of-suc-le-suc h) (le-of-suc-le-suc k)
-
--- an array in a struct has the length of what the struct keeps of it
-pub unmapped : {A B : Type 0} (f : A → B) (l : List A) (n : ℕ) → length (map f l) ≡ n → length l ≡ n
-unmapped f l n e = sym (length-map l f) ∙ e
-
--- a count above the array's length names no more lines than there are
-pub held : {A : Type 0} (l : List A) (n : ℕ) {most : ℕ} → length l ≡ most → take (min n most) l ≡ take n l
-held l n {most} e = go (decLe n most)
-  where
-    go : Dec (n ≤ most) → take (min n most) l ≡ take n l
-    go (yes p) = let k : min n most ≡ n = omega arith in rw k
-    go (no f) = let k : min n most ≡ length l = omega arith in let h : length l ≤ n = omega arith in rw k (take-length l ∙ sym (take-all n l h))
 
 -- n units, of i figures of at most `most` units each
 pub record Running (unit most i : ℕ) (n x : ℤ) : Type 0 where
@@ -95,13 +61,3 @@ pub blocked : {A B : Type 0} (f : B → ℤ) (g : A → B) (l : List A) (n most 
 blocked {A} f g l n most {k} {B₁} {i} {m} long e p =
     let h : i ≤ most = omega arith in
     subst (λ (r : List A). Figure k (most * B₁) m (sum f (map g r))) (ap (λ (j : ℕ). take j l) e ∙ held l n long) (at-most most h p)
-
--- what stands in an array where no stage was read
-abbrev pub blankStage : Stageˢ
-blankStage = record {
-  gas = record { 0 = pos 0 };
-  excess = record { 0 = pos 0 };
-  flue = record { 0 = pos 0 };
-  co = record { 0 = pos 0 };
-  minutes = record { 0 = pos 0 };
-}

@@ -8,10 +8,11 @@ use lib.IntN.{ℤ, pos, natAbs, _+ℤ_, _-ℤ_, _*ℤ_}
 use lib.ListN.{getD}
 use Rattle.sheet.specs.Firing.{Stuff, Gas, Stage, Section, Wall, Firing}
 use Rattle.sheet.specs.Shown.{same}
+use Rattle.sheet.specs.Block.{sum, totalGas}
 use Rattle.document.specs.Tests.{weigh}
 use Rattle.document.specs.Rows.{gasRow}
 use Rattle.formulas.specs.Rounding.{Rounding}
-use Rattle.formulas.specs.Tables.{lineOf, lineAt, tableA1}
+use Rattle.formulas.specs.Tables.{rowOf, straightAt, tableA1}
 
 -- 56 because of 18/22.4, 10^17 by the finest product
 abbrev pub joule : ℕ
@@ -21,17 +22,13 @@ joule = 56 * 10 ^ 17
 abbrev pub parts : ℕ → ℤ → ℤ
 parts k n = n *ℤ pos (joule / k)
 
-unfoldable pub sum : {A : Type 0} → (A → ℤ) → List A → ℤ
-sum f [] = pos 0
-sum f (a ∷ l) = f a +ℤ sum f l
-
 -- ---- Specific heat of table A.2, in 1e-7 kJ/(kg·°C), with T in 0.1 °C
 abbrev pub byTable : ℕ → ℤ → ℤ
-byTable i T = lineAt i .a *ℤ pos (10 ^ 5) +ℤ lineAt i .b *ℤ T
+byTable i T = straightAt i .a *ℤ pos (10 ^ 5) +ℤ straightAt i .b *ℤ T
 
 -- code 0 uses c
 unfoldable pub specificHeat : Stuff → ℤ → ℤ
-specificHeat x T = let m = natAbs (x .material) in cond (eqb m 0) (x .c *ℤ pos 1000) (byTable (lineOf m T) T)
+specificHeat x T = let m = natAbs (x .material) in cond (eqb m 0) (x .c *ℤ pos 1000) (byTable (rowOf m T) T)
 
 -- m c (T − T₀), with c at T, the temperature that stands first in the bracket
 unfoldable pub sensible : Rounding → ℤ → Stuff → ℤ → ℤ → ℤ
@@ -40,9 +37,6 @@ sensible r m x T T₀ = r .to joule (parts (10 ^ 6) (m *ℤ specificHeat x T *�
 -- ---- Income (2, 4): c of the mixture in 1e-10 kJ/(m³·°C), of each gas on a straight line between 0 and 100 °C
 unfoldable pub mixedHeat : Gas → ℤ → ℤ
 mixedHeat g T = weigh (map (λ k. k .cold *ℤ pos 1000 +ℤ (k .hot -ℤ k .cold) *ℤ T) tableA1) (gasRow g .numbers)
-
-abbrev pub totalGas : List Stage → ℤ
-totalGas l = sum (λ s. s .gas) l
 
 module _ (f : Firing) (r : Rounding) where
   unfoldable pub q1 : ℤ

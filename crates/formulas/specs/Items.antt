@@ -6,8 +6,9 @@ use lib.IntN.{ℤ, _-ℤ_}
 use lib.ListN.{length}
 use Rattle.text.specs.Bytes.{bytes}
 use Rattle.sheet.specs.Firing.{Firing}
+use Rattle.sheet.specs.Block.{sum}
 use Rattle.formulas.specs.Rounding.{Rounding}
-use Rattle.formulas.specs.Formulas.{sum, q1, q2, q3, q5, q8, x1, x2, x3, x5, x7, x8, x9, x10, useful, withset}
+use Rattle.formulas.specs.Formulas.{q1, q2, q3, q5, q8, x1, x2, x3, x5, x7, x8, x9, x10, useful, withset}
 
 abbrev pub Quantity : Type 0
 Quantity = Firing → Rounding → ℤ

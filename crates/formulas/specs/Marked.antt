@@ -8,8 +8,9 @@ use Rattle.arith.specs.Nearest.{nearest, nearestℕ, tie}
 use Rattle.arith.specs.Root.{root, rootIn}
 use Rattle.sheet.specs.Firing.{Gas, Stuff, Stage, Section, Wall, Firing}
 use Rattle.sheet.specs.Shown.{same}
+use Rattle.sheet.specs.Block.{sum}
 use Rattle.formulas.specs.Rounding.{paper}
-use Rattle.formulas.specs.Formulas.{joule, sum, specificHeat, sensible, mixedHeat, theoreticalAir, dryOfGas, vapourOfGas, ofGas, dryFlue, vapourRate, vapour, dryHeat, vapourHeat, flueHeat, monoxideHeat, numbered, convection, radiation, flux, wallHeat, q1, q2, q3, q5, q8, x1, x2, x3, x5, x7, x8, x9, x10, waterHeat, useful, withset}
+use Rattle.formulas.specs.Formulas.{joule, specificHeat, sensible, mixedHeat, theoreticalAir, dryOfGas, vapourOfGas, ofGas, dryFlue, vapourRate, vapour, dryHeat, vapourHeat, flueHeat, monoxideHeat, numbered, convection, radiation, flux, wallHeat, q1, q2, q3, q5, q8, x1, x2, x3, x5, x7, x8, x9, x10, waterHeat, useful, withset}
 use Rattle.formulas.specs.Items.{shuttle, total, x11}
 
 abbrev methane : Gas

@@ -6,43 +6,43 @@ use lib.Dec.{eqb}
 use lib.IntN.{ℤ, pos}
 use lib.ListN.{getD}
 use lib.Signed.{leZ}
-use Rattle.formulas.specs.declared.Line.{Line}
+use Rattle.formulas.specs.declared.Straight.{Straight}
 
 -- a + b T, with a in 0.01 and b in 1e-6 kJ/(kg·°C)
-abbrev pub line : ℕ → ℕ → Line
-line a b = record { a = pos a; b = pos b }
+abbrev pub straight : ℕ → ℕ → Straight
+straight a b = record { a = pos a; b = pos b }
 
-abbrev pub tableA2 : List Line
+abbrev pub tableA2 : List Straight
 tableA2 =
-    line 0 0  -- 0: the sheet gives c
-    ∷ line 84 260  -- 1 clay
-    ∷ line 84 260  -- 2 high-alumina
-    ∷ line 42 880  -- 3 corundum, up to and with 800.0
-    ∷ line 67 167  -- 4 sillimanite
-    ∷ line 67 126  -- 5 mullite
-    ∷ line 80 330  -- 6 silica
-    ∷ line 94 250  -- 7 magnesia
-    ∷ line 75 150  -- 8 chrome-magnesia
-    ∷ line 77 300  -- 9 spinel
-    ∷ line 89 420  -- 10 forsterite
-    ∷ line 63 126  -- 11 zircon
-    ∷ line 73 376  -- 12 opaque quartz, up to and with 800.0
-    ∷ line 96 150  -- 13 silicon carbide
-    ∷ line 80 334  -- 14 light silica
-    ∷ line 84 260  -- 15 light clay brick
-    ∷ line 80 293  -- 16 fibre blanket
-    ∷ line 89 0  -- 17 slag wool
-    ∷ line 46 0  -- 18 steel
-    ∷ line 80 418  -- 19: corundum above 800.0
-    ∷ line 90 167  -- 20: opaque quartz above 800.0
+    straight 0 0  -- 0: the sheet gives c
+    ∷ straight 84 260  -- 1 clay
+    ∷ straight 84 260  -- 2 high-alumina
+    ∷ straight 42 880  -- 3 corundum, up to and with 800.0
+    ∷ straight 67 167  -- 4 sillimanite
+    ∷ straight 67 126  -- 5 mullite
+    ∷ straight 80 330  -- 6 silica
+    ∷ straight 94 250  -- 7 magnesia
+    ∷ straight 75 150  -- 8 chrome-magnesia
+    ∷ straight 77 300  -- 9 spinel
+    ∷ straight 89 420  -- 10 forsterite
+    ∷ straight 63 126  -- 11 zircon
+    ∷ straight 73 376  -- 12 opaque quartz, up to and with 800.0
+    ∷ straight 96 150  -- 13 silicon carbide
+    ∷ straight 80 334  -- 14 light silica
+    ∷ straight 84 260  -- 15 light clay brick
+    ∷ straight 80 293  -- 16 fibre blanket
+    ∷ straight 89 0  -- 17 slag wool
+    ∷ straight 46 0  -- 18 steel
+    ∷ straight 80 418  -- 19: corundum above 800.0
+    ∷ straight 90 167  -- 20: opaque quartz above 800.0
     ∷ []
 
 -- the line that holds for a material at T, in 0.1 °C
-abbrev pub lineOf : ℕ → ℤ → ℕ
-lineOf m T = cond (leZ T (pos 8000)) m (cond (eqb m 3) 19 (cond (eqb m 12) 20 m))
+abbrev pub rowOf : ℕ → ℤ → ℕ
+rowOf m T = cond (leZ T (pos 8000)) m (cond (eqb m 3) 19 (cond (eqb m 12) 20 m))
 
-abbrev pub lineAt : ℕ → Line
-lineAt i = getD tableA2 i (line 0 0)
+abbrev pub straightAt : ℕ → Straight
+straightAt i = getD tableA2 i (straight 0 0)
 
 -- c at 0 and at 100 °C, in 0.001 kJ/(m³·°C)
 pub record GasHeat : Type 0 where

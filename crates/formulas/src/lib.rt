@@ -1,11 +1,10 @@
-// The formulas of a heat balance and the figures of its report, as definitions; and what the code of the heats shares: a line of table A.2,
-// the lines of a block, and the way from exact products to whole joules.
-pub mod block;
+// The formulas of a heat balance and the figures of its report, as definitions; and what the code of the heats shares: a straight line of
+// table A.2, and the way from exact quotients to whole units.
 pub mod rounding;
 
-// A line of table A.2: a + b T, with a in 0.01 and b in 1e-6 kJ/(kg·°C). It is kept in 32 bits, as the whole table is laid out where a line is
+// A straight line of table A.2: a + b T, with a in 0.01 and b in 1e-6 kJ/(kg·°C). It is kept in 32 bits, as the whole table is laid out where a line is
 // asked for (docs/DECISIONS.md, "A quantity is kept in 32 bits and counted with in 64").
-pub struct Line {
+pub struct Straight {
     pub a: i32,
     pub b: i32,
 }

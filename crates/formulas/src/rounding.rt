@@ -1,41 +1,30 @@
-// From exact products to whole joules.
+// From exact quotients to whole units.
 ghost use mathlib.Core.Path.{_≡_};
-ghost use Prim.Native.Nat.{_^_};
+ghost use lib.IntN.{pos, natAbs};
+ghost use lib.Signed.{_<ℤ_};
 ghost use Rattle.arith.specs.Nearest.{nearest};
 use quantity::heat::Joules;
 
-// An exact product, in tenths of a joule.
-pub struct Decijoules(pub i64);
+// An exact quotient: so many parts, and of how many one unit is made.
+pub struct Quotient(pub i64, pub i64);
 
-impl Decijoules {
-    // Brought to the nearest whole joule.
-    pub fn joules(self) -> Joules
-        ensures { λ r. ⌜ r .0 ≡ nearest (self .0) 10 ⌝ }
+// So many whole units.
+pub struct Units(pub i64);
+
+impl Quotient {
+    // Brought to the nearest whole unit.
+    pub fn units(self) -> Units
+        requires { ⌜ pos 0 <ℤ self .1 ⌝ }
+        ensures { λ r. ⌜ r .0 ≡ nearest (self .0) (natAbs (self .1)) ⌝ }
     {
-        Joules(arith::nearest(self.0, 10))
+        Units(arith::nearest(self.0, self.1))
     }
-}
 
-// An exact product, in millionths of a joule.
-pub struct Microjoules(pub i64);
-
-impl Microjoules {
-    // Brought to the nearest whole joule.
+    // Brought to the nearest whole joule, where the unit is one.
     pub fn joules(self) -> Joules
-        ensures { λ r. ⌜ r .0 ≡ nearest (self .0) (10 ^ 6) ⌝ }
+        requires { ⌜ pos 0 <ℤ self .1 ⌝ }
+        ensures { λ r. ⌜ r .0 ≡ nearest (self .0) (natAbs (self .1)) ⌝ }
     {
-        Joules(arith::nearest(self.0, 1_000_000))
-    }
-}
-
-// An exact product, in thousand-millionths of a joule.
-pub struct Nanojoules(pub i64);
-
-impl Nanojoules {
-    // Brought to the nearest whole joule.
-    pub fn joules(self) -> Joules
-        ensures { λ r. ⌜ r .0 ≡ nearest (self .0) (10 ^ 9) ⌝ }
-    {
-        Joules(arith::nearest(self.0, 1_000_000_000))
+        Joules(self.units().0)
     }
 }

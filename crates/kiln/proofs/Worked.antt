@@ -5,6 +5,7 @@ use mathlib.Core.Path.{_≡_, refl}
 use mathlib.Core.List.{List}
 use Rattle.arith.specs.Nearest.{nearest, nearestℕ, tie}
 use Rattle.arith.specs.Root.{root, rootIn}
+use Rattle.sheet.specs.Block.{sum}
 use Rattle.text.specs.Bytes.{bytes}
 use Rattle.text.specs.Number.{digitsRead, unsigned, numberWithin}
 use Rattle.text.specs.Decimal.{digitsIn, digits, decimal, line}
@@ -12,7 +13,7 @@ use Rattle.text.specs.Scanning.{upTo, begins}
 use Rattle.document.specs.Schema.{pieces, numbersOf, formedBy, outsideOf, judge}
 use Rattle.document.specs.Reader.{readLine, readRows, readParts, readOf}
 use Rattle.document.specs.Editions.{entriesOf}
-use Rattle.formulas.specs.Formulas.{sum, specificHeat, sensible, mixedHeat, theoreticalAir, dryOfGas, vapourOfGas, ofGas, dryFlue, vapourRate, vapour, dryHeat, vapourHeat, flueHeat, monoxideHeat, numbered, convection, radiation, flux, wallHeat, q1, q2, q3, q5, q8, x1, x2, x3, x5, x7, x8, x9, x10, waterHeat, useful, withset}
+use Rattle.formulas.specs.Formulas.{specificHeat, sensible, mixedHeat, theoreticalAir, dryOfGas, vapourOfGas, ofGas, dryFlue, vapourRate, vapour, dryHeat, vapourHeat, flueHeat, monoxideHeat, numbered, convection, radiation, flux, wallHeat, q1, q2, q3, q5, q8, x1, x2, x3, x5, x7, x8, x9, x10, waterHeat, useful, withset}
 use Rattle.formulas.specs.Items.{total, x11, heats}
 use Rattle.formulas.specs.Report.{lines, printed, linesText, keys, figures, report}
 use Rattle.answer.specs.Answer.{refusedAs, answerOf, printedOf}

@@ -2,23 +2,24 @@
 use Prim.Native.Nat.{ℕ, _≤_, _<_}
 use mathlib.Core.Path.{_≡_, refl, sym, ap, ap₂, _∙_, subst}
 use mathlib.Core.Bool.{Bool, true, false, cond, not}
-use mathlib.Core.List.{List, [], _∷_, map}
+use mathlib.Core.List.{List, [], _∷_}
 use native.Mathlib.Omega.{arith}
 use lib.Dec.{ltb, lit≤}
-use lib.ListN.{length, take, length-drop}
+use lib.ListN.{length, length-drop}
 use borrow.Author.Tests.{lt-ltb, le-ltb, ltb-true, ltb-false}
 use Rattle.sheet.specs.declared.Reading.{Reading}
 use Rattle.sheet.specs.declared.Refusal.{Refusal}
 use Rattle.sheet.specs.declared.Refusal.the-variants.{TooLong, Surplus, Missing, GasTotal}
 use Rattle.sheet.specs.declared.Sheet.{Sheet as Sheetˢ}
 use Rattle.sheet.specs.Refusals.{number}
-use Rattle.sheet.specs.Firing.{Firing, Stage}
-use Rattle.sheet.specs.Shown.{Shows, stage}
+use Rattle.sheet.specs.Firing.{Firing}
+use Rattle.sheet.specs.Shown.{Shows}
+use Rattle.sheet.specs.Block.{totalGas}
 use Rattle.sheet.proofs.Refusals.{numbered}
 use Rattle.document.specs.Schema.{on, within}
 use Rattle.document.specs.Quantities.{gasTotal}
 use Rattle.document.specs.Reader.{Sheet, Read, stopped, got, readLines, Answer, Refused, Good, judgedWhole, readOf}
-use Rattle.document.specs.Tests.{all, counted, isRead, when, _else_, sumOf}
+use Rattle.document.specs.Tests.{all, counted, isRead, when, _else_}
 use Rattle.document.specs.Editions.{document}
 use Rattle.document.specs.Rows.{stagesIn, sectionsIn, wallsIn, firingOf}
 use Rattle.document.specs.Limits.{Limits}
@@ -35,15 +36,9 @@ use Rattle.due.specs.Place.{good, refusedAt, Fair, Ready, Meets, After}
 use Rattle.reader.specs.Whole.{top, openingAs, gasOf, wholeAs, verdictAs, Judged, Answers}
 use Rattle.due.proofs.Places.{not-both, refused-bad}
 
-map-twice : {A B C : Type 0} (g : B → C) (f : A → B) (l : List A) → map g (map f l) ≡ map (λ x. g (f x)) l
-map-twice g f [] = refl
-map-twice g f (x ∷ l) = ap (λ y. g (f x) ∷ y) (map-twice g f l)
-
 -- rule 10's sum, and rule 8's test, by the struct
-gas-same : {x : Sheetˢ} {sheet : Sheet} → Held x sheet → sumOf (map (λ y. y .gas) (stagesIn sheet)) ≡ gasOf x
-gas-same {x} {sheet} h =
-    let shown = ap (λ (f : Firing). map (λ (y : Stage). y .gas) (f .stages)) (h .shows .lines) in
-    ap sumOf (shown ∙ map-twice (λ (y : Stage). y .gas) stage (take (x .stages .count .0) (x .stages .lines)))
+gas-same : {x : Sheetˢ} {sheet : Sheet} → Held x sheet → totalGas (stagesIn sheet) ≡ gasOf x
+gas-same h = ap (λ (f : Firing). totalGas (f .stages)) (h .shows .lines)
 
 read-same : {x : Sheetˢ} {sheet : Sheet} → Held x sheet → Sized x
     → all (λ y. all (isRead (wallsIn sheet) (y .number)) (counted (length (stagesIn sheet)))) (sectionsIn sheet) ≡ allRead (x .readings)

@@ -19,7 +19,6 @@ use Rattle.fuel.specs.declared.Fuelling.{Fuelling}
 use Rattle.head.specs.declared.drying.Drying.{Drying}
 use Rattle.reader.specs.declared.all.Lines.{Lines}
 use Rattle.due.specs.Place.{After}
-use Rattle.blocks.specs.Stages.{SmallGas}
 use Rattle.sheet.specs.Blank.{blankStage, blankSetter, blankPart, blankSection}
 
 abbrev pub headOf : Edition → Heading → Fuelling → Drying → Head
@@ -60,7 +59,6 @@ pub record Held (x : Sheetˢ) (sheet : Sheet) : Type 0 where
 pub record Sized (x : Sheetˢ) : Type 0 where
   pub stages : x .stages .count .0 ≤ 12
   pub sections : x .sections .count .0 ≤ 12
-  pub small : Every SmallGas (x .stages .lines)
 
 pub record LinesRead (s : List ℕ) (start : Place) (r : Lines) : Type 0 where
   pub after : After s start (readLines document) (r .place) (Held (r .sheet))

@@ -2,19 +2,17 @@
 use Prim.Native.Nat.{ℕ}
 use mathlib.Core.Path.{_≡_}
 use mathlib.Core.Bool.{true, cond}
-use mathlib.Core.List.{map}
 use lib.Dec.{ltb}
-use lib.ListN.{take}
 use lib.IntN.{ℤ}
 use Rattle.sheet.specs.declared.Sheet.{Sheet as Sheetˢ}
 use Rattle.sheet.specs.declared.Refusal.{Refusal}
 use Rattle.sheet.specs.declared.Refusal.the-variants.{TooLong, Surplus, Missing, GasTotal}
 use Rattle.sheet.specs.Refusals.{number, field}
 use Rattle.sheet.specs.Shown.{Shows}
+use Rattle.sheet.specs.Block.{stagesOf, totalGas}
 use Rattle.document.specs.Schema.{within}
 use Rattle.document.specs.Quantities.{gasTotal}
 use Rattle.document.specs.Reader.{Answer, Refused, Good}
-use Rattle.document.specs.Tests.{sumOf}
 use Rattle.document.specs.Rows.{firingOf}
 use Rattle.walls.specs.Cells.{allRead}
 use Rattle.due.specs.declared.Place.{Place}
@@ -34,7 +32,7 @@ openingAs n = cond (ltb 16384 n) (refusedAt TooLong 0) top
 
 -- the rules of the whole sheet, by the struct
 abbrev pub gasOf : Sheetˢ → ℤ
-gasOf x = sumOf (map (λ y. y .gas .0) (take (x .stages .count .0) (x .stages .lines)))
+gasOf x = totalGas (stagesOf (x .stages))
 
 abbrev pub wholeAs : Place → Sheetˢ → Place
 wholeAs p x =

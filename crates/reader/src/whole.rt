@@ -1,20 +1,13 @@
 // The whole sheet: where its reading begins, and the rules that look at all of its lines.
-ghost use Prim.Native.Nat.{_≤_};
 ghost use mathlib.Core.Path.{_≡_};
-ghost use mathlib.Core.List.{map};
-ghost use lib.ListN.{take};
-ghost use Rattle.document.specs.Tests.{sumOf};
-ghost use Rattle.document.specs.Rules.{Every};
-ghost use Rattle.blocks.specs.Stages.{SmallGas};
 ghost use Rattle.reader.specs.All.{Sized};
 ghost use Rattle.reader.specs.Whole.{openingAs, verdictAs};
 use due::Place;
 use due::refused;
-use limits::Number;
 use quantity::gas::GasTotal;
 use sheet::Refusal;
 use sheet::Sheet;
-use sheet::Stage;
+use sheet::block::total_gas;
 
 // Where the reading of so many bytes begins: before the first line, or refused if they are more than a sheet may have.
 pub fn opening(n: usize) -> Place
@@ -29,23 +22,6 @@ pub fn opening(n: usize) -> Place
         line: 1,
         at: 0,
     }
-}
-
-// The gas of the first stages.
-fn gas_total(lines: [Stage; 12], count: usize) -> Number
-    requires { ⌜ count ≤ 12 ⌝ }
-    requires { ⌜ Every SmallGas lines ⌝ }
-    ensures { λ r. ⌜ r .0 ≡ sumOf (map (λ x. x .gas .0) (take count lines)) ⌝ }
-{
-    let mut total = Number(0);
-    let mut i = 0;
-    while i < count {
-        let x = lines[i];
-        let gas = x.gas;
-        total = Number(total.0 + gas.0 as i64);
-        i += 1;
-    }
-    total
 }
 
 // A firing as its sheet gives it, and then the numbers are 0; or document 01's number of the refusal, the field that it names and its line, 0
@@ -70,10 +46,8 @@ pub fn verdict(n: usize, p: Place, sheet: Sheet) -> Place
         return refused(Refusal::Surplus, p.line);
     }
     let stages = sheet.stages;
-    let lines = stages.lines;
     let count = stages.count;
-    let total = gas_total(lines, count.0);
-    let t = GasTotal::checked(total, 0, 1);
+    let t = GasTotal::checked(total_gas(stages), 0, 1);
     if t.fault != 0 {
         return refused(Refusal::GasTotal, 0);
     }

@@ -19,16 +19,16 @@ use Rattle.arith.proofs.Order.{abs-mul, sfits-abs}
 use Rattle.arith.proofs.NearestLaws.{nearest-scaled, nearest-exact}
 use Rattle.arith.proofs.Machine.{raw, num, _⟨*⟩_}
 use Rattle.sheet.specs.Firing.{Firing}
+use Rattle.sheet.specs.Block.{totalGas}
 use Rattle.document.specs.Limits.{Limits}
 use Rattle.formulas.specs.Rounding.{paper}
-use Rattle.formulas.specs.Formulas.{joule, totalGas, q1, useful, withset}
+use Rattle.formulas.specs.Formulas.{joule, q1, useful, withset}
 use Rattle.formulas.specs.Items.{Quantity, Item, item, shuttle, heats, heatCount}
 use Rattle.formulas.specs.Report.{Line, heat, share, itemLine, shares, lines, lineCount, printed, figures, joules}
 use Rattle.formulas.specs.Figures.{Is}
 use Rattle.formulas.specs.Sizes.{heatMost}
 use Rattle.heat.specs.Balance.{Heat, Laid, Balanced}
 use Rattle.formulas.proofs.Units.{units, only}
-use Rattle.formulas.proofs.Sums.{sum-of}
 use Rattle.formulas.proofs.Sizes.{within, fit}
 use Rattle.report.specs.Figures.{Divides, Found}
 
@@ -44,7 +44,7 @@ fuel-some : {f : Firing} {B : ℕ} {n : ℤ} → Limits f → Heat q1 f B n → 
 unfolding q1
 fuel-some {f} {n = n} h p =
     let e = only (ltZ-yes tt) (p .is) (units {n = totalGas (f .stages) *ℤ f .fuel .heating *ℤ pos 100}) in
-    let gas = rw (sum-of (λ s. s .gas) (f .stages)) at (h .total .low) in
+    let gas = h .total .low in
     rw e
     (under (totalGas (f .stages) ∷ f .fuel .heating ∷ []) 0
     (prd (leq 100 (# 100) (v 0)) (leq 1 (# 3000) (v 1)) ∷ leq 300000 (# 100) (v 0) ∷ leq 10000 (# 3000) (v 1) ∷ [])

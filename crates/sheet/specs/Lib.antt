@@ -2,3 +2,4 @@ pub mod Firing
 pub mod Refusals
 pub mod Shown
 pub mod Blank
+pub mod Block

@@ -1,5 +1,6 @@
 // A firing as its sheet gives it, line by line, and the reasons for which a sheet is refused.
 pub mod blank;
+pub mod block;
 
 ghost use mathlib.Core.Path.{_≡_};
 ghost use Rattle.sheet.specs.Refusals.{number, field};

@@ -7,8 +7,8 @@ use lib.IntN.{ℤ, pos, natAbs}
 use Rattle.arith.proofs.Ring.{both-left, both-right}
 use Rattle.arith.proofs.Machine.{Known, raw, num, _⟨*⟩_, _⟨+⟩_}
 use Rattle.document.specs.Quantities.{temperature}
-use Rattle.formulas.specs.declared.Line.{Line}
-use Rattle.formulas.specs.Tables.{tableA2, line, lineAt}
+use Rattle.formulas.specs.declared.Straight.{Straight}
+use Rattle.formulas.specs.Tables.{tableA2, straight, straightAt}
 use Rattle.formulas.specs.Formulas.{byTable}
 use Rattle.formulas.specs.Figures.{Within}
 use Rattle.formulas.specs.Sizes.{greatest, column, specificHeatMost}
@@ -21,27 +21,27 @@ startMost = column (λ l. l .a) tableA2
 abbrev slopeMost : ℕ
 slopeMost = column (λ l. l .b) tableA2
 
-modest : Line → Bool
+modest : Straight → Bool
 modest x = leb (natAbs (x .a)) startMost && leb (natAbs (x .b)) slopeMost
 
 module _ (i : ℕ) where
-  modest-at : T (modest (lineAt i))
+  modest-at : T (modest (straightAt i))
   unfolding modest
-  modest-at = entry modest (line 0 0) tableA2 tt tt i
+  modest-at = entry modest (straight 0 0) tableA2 tt tt i
 
-  a-size : Within startMost (lineAt i .a)
+  a-size : Within startMost (straightAt i .a)
   unfolding modest
-  a-size = record { size = leb→le _ _ (both-left (leb (natAbs (lineAt i .a)) startMost) (leb (natAbs (lineAt i .b)) slopeMost) modest-at) }
+  a-size = record { size = leb→le _ _ (both-left (leb (natAbs (straightAt i .a)) startMost) (leb (natAbs (straightAt i .b)) slopeMost) modest-at) }
 
-  b-size : Within slopeMost (lineAt i .b)
+  b-size : Within slopeMost (straightAt i .b)
   unfolding modest
-  b-size = record { size = leb→le _ _ (both-right (leb (natAbs (lineAt i .a)) startMost) (leb (natAbs (lineAt i .b)) slopeMost) modest-at) }
+  b-size = record { size = leb→le _ _ (both-right (leb (natAbs (straightAt i .a)) startMost) (leb (natAbs (straightAt i .b)) slopeMost) modest-at) }
 
   module _ {T : ℤ} (h : Within (greatest temperature) T) where
     abbrev ks : List Known
     ks = within a-size ∷ within b-size ∷ within h ∷ []
 
-    pub straight-fits : StraightFits (lineAt i .a) (lineAt i .b) T
+    pub straight-fits : StraightFits (straightAt i .a) (straightAt i .b) T
     straight-fits = record {
       start = fit ks (raw 0 ⟨*⟩ num (pos 100000)) tt;
       rise = fit ks (raw 1 ⟨*⟩ raw 2) tt;

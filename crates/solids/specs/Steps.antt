@@ -13,7 +13,7 @@ use Rattle.sheet.specs.Shown.{setter, part}
 use Rattle.document.specs.Quantities.{product, ambient, mass, temperature}
 use Rattle.document.specs.Rules.{Every}
 use Rattle.document.specs.Limits.{In, StuffIn, WareIn, WaterIn}
-use Rattle.formulas.specs.Tables.{lineOf, lineAt}
+use Rattle.formulas.specs.Tables.{rowOf, straightAt}
 use Rattle.formulas.specs.Figures.{Within}
 use Rattle.formulas.specs.Sizes.{greatest}
 
@@ -21,7 +21,7 @@ use Rattle.formulas.specs.Sizes.{greatest}
 -- a line of table A.2 with the coefficients of the one that holds
 pub record RowIs (m : ℕ) (T : ℤ) (i : ℕ) : Type 0 where
   pub small : i < 21
-  pub same : lineAt i ≡ lineAt (lineOf m T)
+  pub same : straightAt i ≡ straightAt (rowOf m T)
 
 pub record StraightFits (a b T : ℤ) : Type 0 where
   pub start : SFits w64 (a *ℤ pos 100000)

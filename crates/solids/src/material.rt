@@ -1,6 +1,6 @@
 // Specific heat by table A.2, and the heat that a mass takes up.
 ghost use mathlib.Core.Path.{_≡_};
-ghost use Prim.Native.Nat.{_≤_};
+ghost use Prim.Native.Nat.{_^_, _≤_};
 ghost use lib.IntN.{ℤ, pos, _+ℤ_, _*ℤ_};
 ghost use mir.Syntax.{w64};
 ghost use mir.Val.{SFits};
@@ -9,10 +9,10 @@ ghost use Rattle.formulas.specs.Rounding.{paper};
 ghost use Rattle.formulas.specs.Formulas.{joule, specificHeat, sensible};
 ghost use Rattle.formulas.specs.Figures.{Exact, Figure};
 ghost use Rattle.formulas.specs.Sizes.{specificHeatMost, sensibleMost};
-ghost use Rattle.formulas.specs.Steps.{ProductFits};
+ghost use Rattle.formulas.specs.Steps.{ProductFits, over};
 ghost use Rattle.solids.specs.Steps.{RowIs, StraightFits, Heated, Warmed};
-use formulas::Line;
-use formulas::rounding::Microjoules;
+use formulas::Straight;
+use formulas::rounding::Quotient;
 use quantity::heat::Joules;
 use quantity::heat::SpecificHeat;
 use quantity::kiln::Material;
@@ -25,28 +25,28 @@ use sheet::Stuff;
 pub struct Capacity(pub i64);
 
 // The lines by material code, and at 19 and 20 those of corundum and opaque quartz above 800.0.
-const TABLE_A2: [Line; 21] = [
-    Line { a: 0, b: 0 },
-    Line { a: 84, b: 260 },
-    Line { a: 84, b: 260 },
-    Line { a: 42, b: 880 },
-    Line { a: 67, b: 167 },
-    Line { a: 67, b: 126 },
-    Line { a: 80, b: 330 },
-    Line { a: 94, b: 250 },
-    Line { a: 75, b: 150 },
-    Line { a: 77, b: 300 },
-    Line { a: 89, b: 420 },
-    Line { a: 63, b: 126 },
-    Line { a: 73, b: 376 },
-    Line { a: 96, b: 150 },
-    Line { a: 80, b: 334 },
-    Line { a: 84, b: 260 },
-    Line { a: 80, b: 293 },
-    Line { a: 89, b: 0 },
-    Line { a: 46, b: 0 },
-    Line { a: 80, b: 418 },
-    Line { a: 90, b: 167 },
+const TABLE_A2: [Straight; 21] = [
+    Straight { a: 0, b: 0 },
+    Straight { a: 84, b: 260 },
+    Straight { a: 84, b: 260 },
+    Straight { a: 42, b: 880 },
+    Straight { a: 67, b: 167 },
+    Straight { a: 67, b: 126 },
+    Straight { a: 80, b: 330 },
+    Straight { a: 94, b: 250 },
+    Straight { a: 75, b: 150 },
+    Straight { a: 77, b: 300 },
+    Straight { a: 89, b: 420 },
+    Straight { a: 63, b: 126 },
+    Straight { a: 73, b: 376 },
+    Straight { a: 96, b: 150 },
+    Straight { a: 80, b: 334 },
+    Straight { a: 84, b: 260 },
+    Straight { a: 80, b: 293 },
+    Straight { a: 89, b: 0 },
+    Straight { a: 46, b: 0 },
+    Straight { a: 80, b: 418 },
+    Straight { a: 90, b: 167 },
 ];
 
 // The line of table A.2 that holds for a material at a temperature.
@@ -63,12 +63,12 @@ fn row(material: Material, at: Degrees) -> usize
     }
 }
 
-// The specific heat on a line of the table.
-fn straight(line: Line, at: Degrees) -> Capacity
-    requires { ⌜ StraightFits (line .a) (line .b) (at .0) ⌝ }
-    ensures { λ r. ⌜ r .0 ≡ line .a *ℤ pos 100000 +ℤ line .b *ℤ at .0 ⌝ }
+// The specific heat along a straight line of the table.
+fn along(straight: Straight, at: Degrees) -> Capacity
+    requires { ⌜ StraightFits (straight .a) (straight .b) (at .0) ⌝ }
+    ensures { λ r. ⌜ r .0 ≡ straight .a *ℤ pos 100000 +ℤ straight .b *ℤ at .0 ⌝ }
 {
-    Capacity(line.a as i64 * 100_000 + line.b as i64 * at.0 as i64)
+    Capacity(straight.a as i64 * 100_000 + straight.b as i64 * at.0 as i64)
 }
 
 // The specific heat that the sheet gives.
@@ -80,11 +80,11 @@ fn given(c: SpecificHeat) -> Capacity
 }
 
 // The heat of a mass that grows warmer.
-fn stored(mass: Kilos, c: Capacity, rise: Rise) -> Microjoules
+fn stored(mass: Kilos, c: Capacity, rise: Rise) -> Quotient
     requires { ⌜ ProductFits (mass .0) (c .0) (rise .0) ⌝ }
-    ensures { λ r. ⌜ r .0 ≡ mass .0 *ℤ c .0 *ℤ rise .0 ⌝ }
+    ensures { λ r. ⌜ r ≡ over (mass .0 *ℤ c .0 *ℤ rise .0) (10 ^ 6) ⌝ }
 {
-    Microjoules(mass.0 as i64 * c.0 * rise.0)
+    Quotient(mass.0 as i64 * c.0 * rise.0, 1_000_000)
 }
 
 // The specific heat of a thing at a temperature.
@@ -97,7 +97,7 @@ fn specific_heat(stuff: Stuff, at: Degrees) -> Capacity
         return given(stuff.c);
     }
     let i = row(material, at);
-    straight(TABLE_A2[i], at)
+    along(TABLE_A2[i], at)
 }
 
 // m c (at − from), with c at the first of the two temperatures, in whole joules.

@@ -10,7 +10,6 @@ ghost use Rattle.formulas.specs.Figures.{Within, Figure};
 ghost use Rattle.formulas.specs.Sizes.{greatest, sensibleMost, settersHeatMost, partsHeatMost};
 ghost use Rattle.solids.specs.Steps.{Loads, WareWarmed, WareFired, settersOf, partsOf};
 use crate::material::sensible;
-use formulas::block::held;
 use quantity::heat::Joules;
 use quantity::mass::Kilos;
 use quantity::mass::Product;
@@ -18,6 +17,7 @@ use quantity::temperature::Degrees;
 use sheet::Parts;
 use sheet::Setters;
 use sheet::Ware;
+use sheet::block::held;
 
 // The setters' heat above the base temperature, and what they take up until the ware's highest temperature.
 pub struct SetterHeats {

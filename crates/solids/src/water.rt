@@ -9,8 +9,9 @@ ghost use Rattle.formulas.specs.Rounding.{paper};
 ghost use Rattle.formulas.specs.Formulas.{joule, x2, x3, waterHeat};
 ghost use Rattle.formulas.specs.Figures.{Figure};
 ghost use Rattle.formulas.specs.Sizes.{x2Most, x3Most, waterHeatMost};
+ghost use Rattle.formulas.specs.Steps.{over};
 ghost use Rattle.solids.specs.Steps.{SteamFits, BoiledFits, TwoWatersFits, WetIn, SoakedIn};
-use formulas::rounding::Decijoules;
+use formulas::rounding::Quotient;
 use quantity::heat::Joules;
 use quantity::mass::Kilos;
 use quantity::temperature::Degrees;
@@ -21,11 +22,14 @@ use sheet::Water;
 pub struct Boiling(pub i64);
 
 // Formula 14: both waters as steam in the flue.
-fn steam(water: Water, rise: Rise) -> Decijoules
+fn steam(water: Water, rise: Rise) -> Quotient
     requires { ⌜ SteamFits (water .adsorbed .0) (water .crystal .0) (rise .0) ⌝ }
-    ensures { λ r. ⌜ r .0 ≡ (water .adsorbed .0 +ℤ water .crystal .0) *ℤ (pos 2490000 +ℤ pos 193 *ℤ rise .0) ⌝ }
+    ensures { λ r. ⌜ r ≡ over ((water .adsorbed .0 +ℤ water .crystal .0) *ℤ (pos 2490000 +ℤ pos 193 *ℤ rise .0)) 10 ⌝ }
 {
-    Decijoules((water.adsorbed.0 as i64 + water.crystal.0 as i64) * (2_490_000 + 193 * rise.0))
+    Quotient(
+        (water.adsorbed.0 as i64 + water.crystal.0 as i64) * (2_490_000 + 193 * rise.0),
+        10,
+    )
 }
 
 // The heat that leaves with the water.
@@ -53,11 +57,14 @@ fn boiled(entry: Degrees, on: i64) -> Boiling
 }
 
 // Both waters, each with its own heat of boiling.
-fn two_waters(water: Water, adsorbed: Boiling, crystal: Boiling) -> Decijoules
+fn two_waters(water: Water, adsorbed: Boiling, crystal: Boiling) -> Quotient
     requires { ⌜ TwoWatersFits (water .adsorbed .0) (adsorbed .0) (water .crystal .0) (crystal .0) ⌝ }
-    ensures { λ r. ⌜ r .0 ≡ water .adsorbed .0 *ℤ adsorbed .0 +ℤ water .crystal .0 *ℤ crystal .0 ⌝ }
+    ensures { λ r. ⌜ r ≡ over (water .adsorbed .0 *ℤ adsorbed .0 +ℤ water .crystal .0 *ℤ crystal .0) 10 ⌝ }
 {
-    Decijoules(water.adsorbed.0 as i64 * adsorbed.0 + water.crystal.0 as i64 * crystal.0)
+    Quotient(
+        water.adsorbed.0 as i64 * adsorbed.0 + water.crystal.0 as i64 * crystal.0,
+        10,
+    )
 }
 
 // The part of the useful heat that dries the ware.

@@ -23,13 +23,14 @@ use Rattle.sheet.specs.declared.Sections.{Sections}
 use Rattle.sheet.specs.declared.Stages.{Stages}
 use Rattle.sheet.specs.Firing.{Section, Wall, Firing}
 use Rattle.sheet.specs.Shown.{stage, section, same, before, cell, reading, unread, wasRead, laid}
+use Rattle.sheet.specs.Block.{sum}
+use Rattle.sheet.proofs.Sums.{blankStage}
 use Rattle.document.specs.Rules.{Every, Some}
 use Rattle.document.specs.Limits.{StageIn, SectionIn, WallIn, Apart}
 use Rattle.formulas.specs.Rounding.{paper}
-use Rattle.formulas.specs.Formulas.{sum, noSection, noStage, numbered, sectionOf, stageOf, convection, radiation, flux, wallHeat, x9}
+use Rattle.formulas.specs.Formulas.{noSection, noStage, numbered, sectionOf, stageOf, convection, radiation, flux, wallHeat, x9}
 use Rattle.surface.specs.Cells.{ReadingIn, cellHeat, CellIn, Seen}
 use Rattle.document.proofs.Lists.{every-at}
-use Rattle.formulas.proofs.Sums.{blankStage}
 
 -- ---- sums over the numbers below n
 unfoldable pub sumTo : (ℕ → ℤ) → ℕ → ℤ

@@ -13,12 +13,12 @@ use Rattle.sheet.specs.declared.Sections.{Sections}
 use Rattle.sheet.specs.declared.Stages.{Stages}
 use Rattle.sheet.specs.Firing.{Stage, Section, Wall, Firing}
 use Rattle.sheet.specs.Shown.{section, laid, unread, wasRead}
+use Rattle.sheet.specs.Block.{stagesOf}
 use Rattle.document.specs.Quantities.{surface, nearAir, minutes}
 use Rattle.document.specs.Limits.{In, StageIn, SectionIn, Limits}
 use Rattle.formulas.specs.Rounding.{paper}
 use Rattle.formulas.specs.Formulas.{wallHeat}
 use Rattle.formulas.specs.Sizes.{warmerMost, cellsMost}
-use Rattle.formulas.specs.Steps.{stagesOf}
 
 -- ---- steps
 pub record RiseIn (p : ℕ) (Δ : ℤ) : Type 0 where

@@ -4,7 +4,6 @@ ghost use Prim.Native.Nat.{_^_, _≤_};
 ghost use lib.IntN.{ℤ, pos, natAbs, _+ℤ_, _-ℤ_, _*ℤ_};
 ghost use mir.Syntax.{w64};
 ghost use mir.Val.{SFits};
-ghost use Rattle.arith.specs.Nearest.{nearest};
 ghost use Rattle.arith.specs.Root.{root};
 ghost use Rattle.sheet.specs.Firing.{Wall, Firing};
 ghost use Rattle.sheet.specs.Shown.{stage as stageOf, section as sectionOf};
@@ -12,9 +11,9 @@ ghost use Rattle.formulas.specs.Rounding.{paper, square};
 ghost use Rattle.formulas.specs.Formulas.{joule, placed, fourth, radiation, flux, wallHeat, x9};
 ghost use Rattle.formulas.specs.Figures.{Exact, Figure};
 ghost use Rattle.formulas.specs.Sizes.{placedMost, warmerMost, convectionMost, radiationMost, fluxMost, wallHeatMost, x9Most};
+ghost use Rattle.formulas.specs.Steps.{over};
 ghost use Rattle.surface.specs.Cells.{FourthFits, DifferenceFits, LostFits, RiseIn, HotIn, WallIn, LostIn, cellHeat, CellIn, Seen};
-use formulas::block::held;
-use formulas::rounding::Microjoules;
+use formulas::rounding::Quotient;
 use quantity::heat::Joules;
 use quantity::kiln::Area;
 use quantity::kiln::Minutes;
@@ -26,6 +25,7 @@ use sheet::Section;
 use sheet::Sections;
 use sheet::Stage;
 use sheet::Stages;
+use sheet::block::held;
 
 // A heat flux, in 1e-5 W/m².
 pub struct Flux(pub i64);
@@ -33,20 +33,8 @@ pub struct Flux(pub i64);
 // ((273 + T)/100)⁴, in 1e-12.
 pub struct Fourth(pub i64);
 
-// The second term of formula 25 before it is rounded, in 1e-14 W/m².
-pub struct RadiationExact(pub i64);
-
 // A of formula 25 in 0.01, by place.
 const FACTOR: [u64; 4] = [0, 326, 256, 210];
-
-impl RadiationExact {
-    // To the nearest 1e-5 W/m².
-    fn rounded(self) -> Flux
-        ensures { λ r. ⌜ r .0 ≡ nearest (self .0) (10 ^ 9) ⌝ }
-    {
-        Flux(arith::nearest(self.0, 1_000_000_000))
-    }
-}
 
 // A Δ√Δ, cut down.
 fn cut_down(a: u64, rise: u64) -> u64
@@ -76,11 +64,11 @@ fn fourth_power(at: Degrees) -> Fourth
 }
 
 // The second term of formula 25, exact.
-fn radiated(surface: Fourth, air: Fourth) -> RadiationExact
+fn radiated(surface: Fourth, air: Fourth) -> Quotient
     requires { ⌜ DifferenceFits (surface .0) (air .0) ⌝ }
-    ensures { λ r. ⌜ r .0 ≡ pos 454 *ℤ (surface .0 -ℤ air .0) ⌝ }
+    ensures { λ r. ⌜ r ≡ over (pos 454 *ℤ (surface .0 -ℤ air .0)) (10 ^ 9) ⌝ }
 {
-    RadiationExact(454 * (surface.0 - air.0))
+    Quotient(454 * (surface.0 - air.0), 1_000_000_000)
 }
 
 // The second term of formula 25.
@@ -88,7 +76,7 @@ fn radiation(surface: Degrees, air: Degrees) -> Flux
     requires { ⌜ HotIn (surface .0) (air .0) ⌝ }
     ensures { λ r. ⌜ ((w : Wall) → w .surface ≡ surface .0 → w .air ≡ air .0 → Figure (10 ^ 9) radiationMost (r .0) (radiation paper w)) ⌝ }
 {
-    radiated(fourth_power(surface), fourth_power(air)).rounded()
+    Flux(radiated(fourth_power(surface), fourth_power(air)).units().0)
 }
 
 // Both terms together.
@@ -111,11 +99,11 @@ fn flux_at(reading: Reading, section: Section) -> Flux
 }
 
 // Formula 27 before it is rounded: 3.6 kJ per Wh, a sixtieth of it a minute.
-fn lost(flux: Flux, area: Area, minutes: Minutes) -> Microjoules
+fn lost(flux: Flux, area: Area, minutes: Minutes) -> Quotient
     requires { ⌜ LostFits (flux .0) (area .0) (minutes .0) ⌝ }
-    ensures { λ r. ⌜ r .0 ≡ flux .0 *ℤ area .0 *ℤ minutes .0 *ℤ pos 6 ⌝ }
+    ensures { λ r. ⌜ r ≡ over (flux .0 *ℤ area .0 *ℤ minutes .0 *ℤ pos 6) (10 ^ 6) ⌝ }
 {
-    Microjoules(flux.0 * area.0 as i64 * minutes.0 as i64 * 6)
+    Quotient(flux.0 * area.0 as i64 * minutes.0 as i64 * 6, 1_000_000)
 }
 
 // The heat that leaves through a section in a stage.

@@ -32,7 +32,7 @@ brought-requires c κs =
     (record { one = fit ks (raw 0 ⟨*⟩ mixed) tt; all = fit ks (raw 0 ⟨*⟩ mixed ⟨*⟩ (raw 3 ⟨-⟩ raw 4)) tt })
 
 joules-requires : tie.Need-joules-requires
-joules-requires c κs = search needs
+joules-requires c κs = rw (c .brought .ensures) (search needs)
 
 returns : tie.Need-returns
 unfolding q2

@@ -1,8 +1,11 @@
--- The exact volume is the formula's, and `rounded` rounds it. Assumes nothing.
+-- The exact volume is the formula's, and `units` rounds it. Assumes nothing.
 use mathlib.Core.Path.{refl}
 use mathlib.Core.List.{List, [], _∷_}
 use Prim.Native.Nat.{_^_}
 use borrow.Author.Needs.{needs}
+use mir.Syntax.{w64}
+use mir.Val.{SFits}
+use mir.Facts.{toZ-ofZ}
 use lib.IntN.{pos}
 use Rattle.arith.proofs.Machine.{Known, Mx, raw, num, _⟨+⟩_, _⟨-⟩_, _⟨*⟩_}
 use Rattle.sheet.specs.Firing.{Stage}
@@ -30,14 +33,16 @@ dry-rate-requires c κs =
 dry-exact-requires : tie.Need-dry-exact-requires
 dry-exact-requires c κs = rw (c .dry-rate .ensures) (fit (known (c .before .pre)) (raw 0 ⟨*⟩ each) tt)
 
-rounded-requires : tie.Need-rounded-requires
-rounded-requires c κs = search needs
+units-requires : tie.Need-units-requires
+units-requires c κs = rw (c .dry-exact .ensures) (search needs)
 
 returns : tie.Need-returns
 unfolding dryFlue
-returns c =
+returns told =
+    let c = told .before in
+    let fits : SFits w64 (c .units .result .0) = search needs in
     rounded (known (c .before .before .before .pre)) (raw 0 ⟨*⟩ each) (10 ^ 5) 1 tt (exactly refl)
-    (rw (c .rounded .ensures, c .before .dry-exact .ensures, c .before .before .dry-rate .ensures))
+    (rw (toZ-ofZ fits, c .units .ensures, c .before .dry-exact .ensures, c .before .before .dry-rate .ensures))
 
 pub dry-flue-spec : {M : Type 1} → statement M
-dry-flue-spec = tie.close (tie.spec dry-rate-requires dry-exact-requires rounded-requires returns)
+dry-flue-spec = tie.close (tie.spec dry-rate-requires dry-exact-requires units-requires returns)

@@ -36,7 +36,7 @@ dry-carried-requires c κs =
     (record { one = p .first; all = rw e (fit (within (p .filled .volume) ∷ within (p .carried) ∷ []) (raw 0 ⟨*⟩ raw 1) tt) })
 
 joules-requires : tie.Need-joules-requires
-joules-requires c κs = search needs
+joules-requires c κs = rw (c .dry-carried .ensures) (search needs)
 
 returns : tie.Need-returns
 unfolding dryHeat

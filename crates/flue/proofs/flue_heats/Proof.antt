@@ -9,13 +9,15 @@ use lib.ListN.{length, getD}
 use Rattle.sheet.specs.declared.Stage.{Stage as Stageˢ}
 use Rattle.sheet.specs.Firing.{Stage}
 use Rattle.sheet.specs.Shown.{stage}
+use Rattle.sheet.specs.Block.{sum}
+use Rattle.sheet.proofs.Sums.{unmapped, blankStage, first}
 use Rattle.document.specs.Limits.{StageIn}
 use Rattle.formulas.specs.Rounding.{paper}
-use Rattle.formulas.specs.Formulas.{joule, sum, flueHeat, monoxideHeat, x7, x8}
+use Rattle.formulas.specs.Formulas.{joule, flueHeat, monoxideHeat, x7, x8}
 use Rattle.document.specs.Quantities.{stagesMost}
 use Rattle.formulas.specs.Sizes.{flueHeatMost, monoxideHeatMost}
 use Rattle.burning.specs.Mixture.{burning as burningOf}
-use Rattle.formulas.proofs.Sums.{unmapped, blankStage, first, each, Running, none, more-fits, summed, blocked}
+use Rattle.formulas.proofs.Sums.{each, Running, none, more-fits, summed, blocked}
 use Rattle.flue.proofs.flue_heats.Statement.{statement}
 use Rattle.flue.proofs.flue_heats.Tie as tie
 

@@ -26,7 +26,7 @@ unburnt-requires c κs =
     record { one = fit ks (raw 0 ⟨*⟩ raw 1) tt; all = fit ks (raw 0 ⟨*⟩ raw 1 ⟨*⟩ num (pos 12750)) tt }
 
 joules-requires : tie.Need-joules-requires
-joules-requires c κs = search needs
+joules-requires c κs = rw (c .unburnt .ensures) (search needs)
 
 pub monoxide-heat-spec : {M : Type 1} → statement M
 monoxide-heat-spec = tie.close (tie.spec unburnt-requires joules-requires returns)

@@ -2,6 +2,9 @@
 use mathlib.Core.List.{[], _∷_}
 use Prim.Native.Nat.{_*_, _^_}
 use borrow.Author.Needs.{needs}
+use mir.Syntax.{w64}
+use mir.Val.{SFits}
+use mir.Facts.{toZ-ofZ}
 use Rattle.arith.proofs.Machine.{raw, _⟨*⟩_}
 use Rattle.formulas.specs.Formulas.{vapour}
 use Rattle.formulas.proofs.Units.{times}
@@ -17,16 +20,18 @@ vapour-exact-requires c κs =
     let p = c .before .pre .burns in
     fit (within (c .vapour-rate .ensures .size) ∷ limits (p .stage .gas) ∷ []) (raw 0 ⟨*⟩ raw 1) tt
 
-rounded-requires : tie.Need-rounded-requires
-rounded-requires c κs = search needs
+units-requires : tie.Need-units-requires
+units-requires c κs = rw (c .vapour-exact .ensures) (search needs)
 
 returns : tie.Need-returns
 unfolding vapour
-returns c =
+returns told =
+    let c = told .before in
+    let fits : SFits w64 (c .units .result .0) = search needs in
     let s = c .before .before .before in
     let rate = c .before .before .vapour-rate .ensures in
     rounded (within (rate .size) ∷ limits (s .pre .burns .stage .gas) ∷ []) (raw 0 ⟨*⟩ raw 1) (10 ^ 4) (56 * 10 ^ 7) tt
-    (times (rate .is) (s .args .stage .gas .0)) (rw (c .rounded .ensures, c .before .vapour-exact .ensures))
+    (times (rate .is) (s .args .stage .gas .0)) (rw (toZ-ofZ fits, c .units .ensures, c .before .vapour-exact .ensures))
 
 pub vapour-spec : {M : Type 1} → statement M
-vapour-spec = tie.close (tie.spec vapour-rate-requires vapour-exact-requires rounded-requires returns)
+vapour-spec = tie.close (tie.spec vapour-rate-requires vapour-exact-requires units-requires returns)

@@ -29,7 +29,7 @@ vapour-carried-requires c κs =
     (record { one = fit ks (raw 0 ⟨*⟩ num (pos 193)) tt; all = fit ks (raw 0 ⟨*⟩ num (pos 193) ⟨*⟩ (raw 1 ⟨-⟩ raw 2)) tt })
 
 joules-requires : tie.Need-joules-requires
-joules-requires c κs = search needs
+joules-requires c κs = rw (c .vapour-carried .ensures) (search needs)
 
 returns : tie.Need-returns
 unfolding vapourHeat

@@ -1,8 +1,11 @@
--- The exact rate is the formula's, and `rounded` rounds it. Assumes nothing.
+-- The exact rate is the formula's, and `units` rounds it. Assumes nothing.
 use mathlib.Core.Path.{refl}
 use mathlib.Core.List.{List, [], _∷_}
 use Prim.Native.Nat.{_*_, _^_}
 use borrow.Author.Needs.{needs}
+use mir.Syntax.{w64}
+use mir.Val.{SFits}
+use mir.Facts.{toZ-ofZ}
 use lib.IntN.{ℤ, pos}
 use Rattle.arith.proofs.Machine.{Known, Mx, raw, num, _⟨+⟩_, _⟨*⟩_}
 use Rattle.sheet.specs.Firing.{Stage}
@@ -33,12 +36,15 @@ rate-exact-requires c κs =
       all = fit ks all tt;
     }
 
-rounded-requires : tie.Need-rounded-requires
-rounded-requires c κs = search needs
+units-requires : tie.Need-units-requires
+units-requires c κs = rw (c .rate-exact .ensures) (search needs)
 
 returns : tie.Need-returns
 unfolding vapourRate
-returns c = rounded (known (c .before .before .pre)) all (56 * 10 ^ 7) 1 tt (exactly refl) (rw (c .rounded .ensures, c .before .rate-exact .ensures))
+returns told =
+    let c = told .before in
+    let fits : SFits w64 (c .units .result .0) = search needs in
+    rounded (known (c .before .before .pre)) all (56 * 10 ^ 7) 1 tt (exactly refl) (rw (toZ-ofZ fits, c .units .ensures, c .before .rate-exact .ensures))
 
 pub vapour-rate-spec : {M : Type 1} → statement M
-vapour-rate-spec = tie.close (tie.spec rate-exact-requires rounded-requires returns)
+vapour-rate-spec = tie.close (tie.spec rate-exact-requires units-requires returns)

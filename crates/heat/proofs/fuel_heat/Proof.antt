@@ -1,73 +1,77 @@
 -- Both heats of the fuel, from the limits of the sheet. Assumes nothing.
-use mathlib.Core.Path.{sym, _∙_, subst}
+use mathlib.Core.Path.{_≡_, sym, _∙_, subst}
 use borrow.Author.Needs.{needs}
-use Rattle.sheet.specs.Firing.{Gas, Stage}
+use Rattle.limits.proofs.Laws.{passed}
+use Rattle.sheet.specs.Firing.{Gas}
+use Rattle.sheet.specs.Block.{totalGas, stagesOf}
 use Rattle.document.specs.Quantities.{gasTotal}
 use Rattle.document.specs.Limits.{In}
-use Rattle.formulas.specs.Formulas.{totalGas}
 use Rattle.burning.specs.Mixture.{Warmed}
-use Rattle.formulas.specs.Steps.{stagesOf}
 use Rattle.heat.proofs.Kept.{own, field}
-use Rattle.formulas.proofs.Sums.{sum-of}
 use Rattle.heat.proofs.fuel_heat.Statement.{statement}
 use Rattle.heat.proofs.fuel_heat.Tie as tie
 
-total-gas-requires : tie.Need-total-gas-requires
-total-gas-requires c κs = own (c .before .before .before .pre .1) .stages
+-- the start, from where the gas was checked; this place, from where all that the heats take is known
+abbrev start : tie.After-checked → tie.Start
+start c = let total = c .before in total .before .before .before .before
+
+abbrev checked : tie.After-degrees2 → tie.After-checked
+checked c = c .before .before .before .before
+
+-- the gas of all stages is within its limits, and so it is what was checked
+total-in : (c : tie.After-checked) → In gasTotal (totalGas (stagesOf (start c .args .sheet .stages)))
+total-in c = own (start c .pre .1) .total
+
+gas-is : (c : tie.After-checked) → c .checked .result .value .0 ≡ totalGas (stagesOf (start c .args .sheet .stages))
+gas-is c =
+    let e = c .before .total-gas .ensures in
+    let limits = subst (In gasTotal) (sym e) (total-in c) in
+    passed (c .checked .ensures) (record { low = limits .low; high = limits .high }) .0 ∙ e
+
+gas-in : (c : tie.After-checked) → In gasTotal (c .checked .result .value .0)
+gas-in c = subst (In gasTotal) (sym (gas-is c)) (total-in c)
 
 warmth-of-requires : tie.Need-warmth-of-requires
-warmth-of-requires c κs = own (c .before .before .before .before .pre .1) .gas
-
-degrees-requires : tie.Need-degrees-requires
-degrees-requires c κs = search needs
-
-degrees-requires-2 : tie.Need-degrees-requires-2
-degrees-requires-2 c κs = search needs
-
--- the gas of all stages is within its limits
-gas-in : (c : tie.After-total-gas) → In gasTotal (c .total-gas .result .0)
-gas-in c =
-    let s = c .before .before .before .before in
-    let e = c .total-gas .ensures ∙ sym (sum-of (λ (x : Stage). x .gas) (stagesOf (s .args .sheet .stages))) in
-    rw e (own (s .pre .1) .total)
+warmth-of-requires c κs = own (start (c .before) .pre .1) .gas
 
 q1-requires : tie.Need-q1-requires
-q1-requires c κs =
-    let l = own (c .before .before .before .before .before .before .before .pre .1) in
-    record { gas = gas-in (c .before .before .before); heating = l .heating }
+q1-requires c κs = record { gas = gas-in (checked c); heating = own (start (checked c) .pre .1) .heating }
 
 q2-requires : tie.Need-q2-requires
 q2-requires c κs =
-    let l = own (c .before .before .before .before .before .before .before .before .pre .1) in
-    let w = c .before .before .before .warmth-of .ensures in
+    let known = c .before in
+    let l = own (start (checked known) .pre .1) in
+    let w = known .before .before .warmth-of .ensures in
     record {
-      gas = gas-in (c .before .before .before .before);
+      gas = gas-in (checked known);
       start = w .cold;
       on = w .rise;
-      at = rw (c .before .before .degrees .ensures) (l .fuelTemperature);
-      from = rw (c .before .degrees2 .ensures) (l .ambient);
+      at = rw (known .before .degrees .ensures) (l .fuelTemperature);
+      from = rw (known .degrees2 .ensures) (l .ambient);
     }
 
 returns : tie.Need-returns
 returns c =
-    let gas = c .before .before .before .before .before .total-gas .ensures in
-    let warmth = c .before .before .before .before .warmth-of in
+    let known = c .before .before in
+    let gas = gas-is (checked known) in
+    let warmth = known .before .before .warmth-of in
     λ f k. (
       c .before .q1 .ensures f (field k (λ g. totalGas (g .stages)) ∙ sym gas) (field k (λ g. g .fuel .heating)),
       c .q2 .ensures f (field k (λ g. totalGas (g .stages)) ∙ sym gas)
           (subst (λ (g : Gas). Warmed g (warmth .result)) (sym (field k (λ g. g .gas))) (warmth .ensures))
-          (field k (λ g. g .fuel .temperature) ∙ sym (c .before .before .before .degrees .ensures))
-          (field k (λ g. g .ambient) ∙ sym (c .before .before .degrees2 .ensures)),
+          (field k (λ g. g .fuel .temperature) ∙ sym (known .before .degrees .ensures))
+          (field k (λ g. g .ambient) ∙ sym (known .degrees2 .ensures)),
     )
 
 pub fuel-heat-spec : {M : Type 1} → statement M
 fuel-heat-spec =
     tie.close
     (tie.spec
-    total-gas-requires
+    (λ c κs. search needs)
+    (λ c κs. search needs)
     warmth-of-requires
-    degrees-requires
-    degrees-requires-2
+    (λ c κs. search needs)
+    (λ c κs. search needs)
     q1-requires
     q2-requires
     returns)

@@ -1,8 +1,11 @@
--- The exact difference is the formula's, and `rounded` rounds it. Assumes nothing.
+-- The exact difference is the formula's, and `units` rounds it. Assumes nothing.
 use mathlib.Core.Path.{refl}
 use mathlib.Core.List.{List, [], _∷_}
 use Prim.Native.Nat.{ℕ, _^_}
 use borrow.Author.Needs.{needs}
+use mir.Syntax.{w64}
+use mir.Val.{SFits}
+use mir.Facts.{toZ-ofZ}
 use lib.IntN.{ℤ, pos}
 use Rattle.arith.proofs.Machine.{Known, Mx, raw, num, _⟨+⟩_, _⟨-⟩_, _⟨*⟩_}
 use Rattle.formulas.specs.Formulas.{radiation}
@@ -47,19 +50,21 @@ radiated-requires c κs =
     rw (c .before .fourth-power .ensures, c .fourth-power2 .ensures)
     (record { difference = fit ks (power 0 ⟨-⟩ power 1) tt; all = fit ks (num (pos 454) ⟨*⟩ (power 0 ⟨-⟩ power 1)) tt })
 
-rounded-requires : tie.Need-rounded-requires
-rounded-requires c κs = search needs
+units-requires : tie.Need-units-requires
+units-requires c κs = rw (c .radiated .ensures) (search needs)
 
 returns : tie.Need-returns
 unfolding radiation
-returns c =
+returns told =
+    let c = told .before in
+    let fits : SFits w64 (c .units .result .0) = search needs in
     let air = c .before .before in
     let surface = air .before in
     λ w e₁ e₂.
     rw (e₁, e₂) (rounded (known (surface .before .pre)) (num (pos 454) ⟨*⟩ (power 0 ⟨-⟩ power 1)) (10 ^ 9) 1 tt (exactly refl)
-    (rw (c .rounded .ensures, c .before .radiated .ensures, air .fourth-power2 .ensures, surface .fourth-power .ensures)))
+    (rw (toZ-ofZ fits, c .units .ensures, c .before .radiated .ensures, air .fourth-power2 .ensures, surface .fourth-power .ensures)))
 
 pub radiation-spec : {M : Type 1} → statement M
 radiation-spec =
     tie.close
-    (tie.spec fourth-power-requires fourth-power-requires-2 radiated-requires rounded-requires returns)
+    (tie.spec fourth-power-requires fourth-power-requires-2 radiated-requires units-requires returns)

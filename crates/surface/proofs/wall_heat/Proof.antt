@@ -28,7 +28,7 @@ lost-requires c κs =
     }
 
 joules-requires : tie.Need-joules-requires
-joules-requires c κs = search needs
+joules-requires c κs = rw (c .lost .ensures) (search needs)
 
 returns : tie.Need-returns
 unfolding wallHeat

@@ -14,11 +14,8 @@ returns c =
     let taken = c .before .before .before in
     let t = taken .stage-of in
     let d = taken .before .before .due in
-    record {
-      after = rw (c .before .ranged .ensures)
-          (line-after _ _ _ stageLine (d .result .values) _ (λ zs. stage (t .result .stage) ≡ stageOf (plain zs)) (d .ensures) (t .ensures .takes));
-      small = t .ensures .small;
-    }
+    rw (c .before .ranged .ensures)
+    (line-after _ _ _ stageLine (d .result .values) _ (λ zs. stage (t .result .stage) ≡ stageOf (plain zs)) (d .ensures) (t .ensures))
 
 pub stage-line-spec : {M : Type 1} → statement M
 stage-line-spec = tie.close (tie.spec (λ c. search needs) (λ c κs. search needs) (λ c κs. search needs) (λ c κs. search needs) returns)

@@ -1,8 +1,4 @@
 -- Five constructors in a row. Assumes nothing.
-use mathlib.Core.List.{[], _∷_}
-use lib.Signed.{leZ-yes}
-use Rattle.arith.proofs.Machine.{range, arg, bound}
-use Rattle.limits.proofs.Laws.{within}
 use borrow.Author.Needs.{needs}
 use Rattle.document.specs.Rows.{stageOf}
 use Rattle.due.proofs.Chain.{_&_, done, taken-as}
@@ -17,11 +13,7 @@ returns c =
     let r2 = r3 .before in
     let r1 = r2 .before in
     let r0 = r1 .before in
-    let gas = within (r0 .checked .ensures) (leZ-yes tt) in
-    record {
-      takes = taken-as stageOf (r0 .checked .ensures & r1 .checked2 .ensures & r2 .checked3 .ensures & r3 .checked4 .ensures & r4 .checked5 .ensures & done);
-      small = bound (range (gas .low) (gas .high) ∷ []) (arg 0) tt;
-    }
+    taken-as stageOf (r0 .checked .ensures & r1 .checked2 .ensures & r2 .checked3 .ensures & r3 .checked4 .ensures & r4 .checked5 .ensures & done)
 
 pub stage-of-spec : {M : Type 1} → statement M
 stage-of-spec =

@@ -7,16 +7,13 @@ use Rattle.sheet.specs.Shown.{stage}
 use Rattle.document.specs.Tests.{free}
 use Rattle.document.specs.Document01.{stageLine}
 use Rattle.document.specs.Rows.{stageOf}
-use Rattle.document.specs.Rules.{Every}
-use Rattle.document.proofs.Lists.{every-replicate, every-set}
 use Rattle.sheet.specs.Blank.{blankStage}
-use Rattle.blocks.specs.Stages.{SmallGas}
 use Rattle.due.proofs.Fills.{Filling, filling-none, filling-next}
 use Rattle.blocks.proofs.stages.stage_rows.Statement.{statement}
 use Rattle.blocks.proofs.stages.stage_rows.Tie as tie
 
 abbrev Inv-loop : tie.InvT-loop
-Inv-loop s k lines₀ p₀ i₀ lines p i = Filling stage stageOf blankStage 12 s stageLine free k p₀ p i lines × Every SmallGas lines
+Inv-loop s k lines₀ p₀ i₀ lines p i = Filling stage stageOf blankStage 12 s stageLine free k p₀ p i lines
 
 abbrev μ-loop : tie.MeasureT-loop
 μ-loop s k lines₀ p₀ i₀ lines p i = k - i
@@ -24,25 +21,23 @@ abbrev μ-loop : tie.MeasureT-loop
 loop-holds : tie.Need-loop-holds Inv-loop μ-loop
 loop-holds c =
     let start = c .before .before in
-    rw (c .stage .ensures)
-    (filling-none stage stageOf blankStage 12 _ stageLine free _ _ (start .pre .0) (start .pre .1), every-replicate SmallGas 12 blankStage (omega arith))
+    rw (c .stage .ensures) (filling-none stage stageOf blankStage 12 _ stageLine free _ _ (start .pre .0) (start .pre .1))
 
 stage-line-requires : tie.Need-stage-line-requires Inv-loop μ-loop
-stage-line-requires c κs = c .before .loop .inv .0 .3
+stage-line-requires c κs = c .before .loop .inv .3
 
 loop-again : tie.Need-loop-again Inv-loop μ-loop
 loop-again c =
-    let l = c .before .before .stage-line in
-    let at = c .before .before .before .before .loop in (
-      filling-next stage stageOf blankStage 12 _ stageLine free _ _ _ _ _ (at .lines) _ (at .inv .0) (omega arith) (λ above. l .ensures .after),
-      every-set SmallGas (at .lines) (at .i) (l .result .stage) (at .inv .1) (l .ensures .small),
-    )
+    let line = c .before .before in
+    let turn = line .before .before in
+    filling-next stage stageOf blankStage 12 _ stageLine free _ _ _ _ _ (turn .loop .lines) _ (turn .loop .inv) (omega arith)
+    (λ above. line .stage-line .ensures)
 
 returns : tie.Need-returns Inv-loop μ-loop
 returns c =
     let turn = c .before in
     let e : turn .loop .i ≡ turn .before .before .before .args .k = omega arith in
-    rw (← e) (record { after = turn .loop .inv .0 .4; small = turn .loop .inv .1 })
+    rw (← e) (turn .loop .inv .4)
 
 pub stage-rows-spec : {M : Type 1} → statement M
 stage-rows-spec =

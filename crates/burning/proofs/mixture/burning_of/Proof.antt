@@ -20,7 +20,7 @@ abbrev μ-loop : tie.MeasureT-loop
 μ-loop shares kinds sum₀ i₀ sum i = 13 - i
 
 -- the loop, from where a gas and its share are read
-abbrev L : tie.After-brighter-arg Inv-loop μ-loop → tie.At-loop Inv-loop μ-loop
+abbrev L : tie.After-burning-with-arg Inv-loop μ-loop → tie.At-loop Inv-loop μ-loop
 L c = c .before .before .before
 
 loop-holds : tie.Need-loop-holds Inv-loop μ-loop
@@ -32,14 +32,14 @@ mul-kind c = omega arith
 array-copy-out-kind : tie.Need-array-copy-out-kind Inv-loop μ-loop
 array-copy-out-kind c = omega arith
 
-mul-brighter : tie.Need-mul-brighter Inv-loop μ-loop
-mul-brighter c = omega arith
+mul-burning-with : tie.Need-mul-burning-with Inv-loop μ-loop
+mul-burning-with c = omega arith
 
-array-copy-out-brighter : tie.Need-array-copy-out-brighter Inv-loop μ-loop
-array-copy-out-brighter c = omega arith
+array-copy-out-burning-with : tie.Need-array-copy-out-burning-with Inv-loop μ-loop
+array-copy-out-burning-with c = omega arith
 
-brighter-requires : tie.Need-brighter-requires Inv-loop μ-loop
-brighter-requires c κs =
+burning-with-requires : tie.Need-burning-with-requires Inv-loop μ-loop
+burning-with-requires c κs =
     let l = L c .loop in
     let s = L c .before in
     let shares = s .args .t1 in
@@ -61,7 +61,7 @@ loop-again c =
     let l = L (c .before) .loop in
     let shares = L (c .before) .before .args .t1 in
     let h : l .i < 13 = omega arith in
-    let e = c .brighter .ensures in (
+    let e = c .burning-with .ensures in (
       omega arith,
       column-next (λ k. k .air) refl shares (l .i) h (l .inv .1) (e .air),
       column-next (λ k. k .dry) refl shares (l .i) h (l .inv .2) (e .dry),
@@ -96,9 +96,9 @@ burning-of-spec =
     loop-holds
     mul-kind
     array-copy-out-kind
-    mul-brighter
-    array-copy-out-brighter
-    brighter-requires
+    mul-burning-with
+    array-copy-out-burning-with
+    burning-with-requires
     add-i
     loop-less
     loop-again

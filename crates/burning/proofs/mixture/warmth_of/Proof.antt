@@ -25,7 +25,7 @@ abbrev μ-loop : tie.MeasureT-loop
 μ-loop shares kinds sum₀ i₀ sum i = 13 - i
 
 -- the loop, from where a gas and its share are read
-abbrev L : tie.After-warmer-arg Inv-loop μ-loop → tie.At-loop Inv-loop μ-loop
+abbrev L : tie.After-warmth-with-arg Inv-loop μ-loop → tie.At-loop Inv-loop μ-loop
 L c = c .before .before .before
 
 loop-holds : tie.Need-loop-holds Inv-loop μ-loop
@@ -37,14 +37,14 @@ mul-kind c = omega arith
 array-copy-out-kind : tie.Need-array-copy-out-kind Inv-loop μ-loop
 array-copy-out-kind c = omega arith
 
-mul-warmer : tie.Need-mul-warmer Inv-loop μ-loop
-mul-warmer c = omega arith
+mul-warmth-with : tie.Need-mul-warmth-with Inv-loop μ-loop
+mul-warmth-with c = omega arith
 
-array-copy-out-warmer : tie.Need-array-copy-out-warmer Inv-loop μ-loop
-array-copy-out-warmer c = omega arith
+array-copy-out-warmth-with : tie.Need-array-copy-out-warmth-with Inv-loop μ-loop
+array-copy-out-warmth-with c = omega arith
 
-warmer-requires : tie.Need-warmer-requires Inv-loop μ-loop
-warmer-requires c κs =
+warmth-with-requires : tie.Need-warmth-with-requires Inv-loop μ-loop
+warmth-with-requires c κs =
     let l = L c .loop in
     let s = L c .before in
     let shares = s .args .t1 in
@@ -66,7 +66,7 @@ loop-again c =
     let l = L (c .before) .loop in
     let shares = L (c .before) .before .args .t1 in
     let h : l .i < 13 = omega arith in
-    let e = c .warmer .ensures in (
+    let e = c .warmth-with .ensures in (
       omega arith,
       column-next (λ k. k .cold) refl shares (l .i) h (l .inv .1) (e .cold),
       column-next rise refl shares (l .i) h (l .inv .2) (e .rise),
@@ -95,9 +95,9 @@ warmth-of-spec =
     loop-holds
     mul-kind
     array-copy-out-kind
-    mul-warmer
-    array-copy-out-warmer
-    warmer-requires
+    mul-warmth-with
+    array-copy-out-warmth-with
+    warmth-with-requires
     add-i
     loop-less
     loop-again

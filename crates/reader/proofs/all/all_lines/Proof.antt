@@ -41,7 +41,6 @@ returns c =
       sized = record {
         stages = staging .staging-lines .ensures .within;
         sections = surfaces .surface-lines .ensures .within;
-        small = staging .staging-lines .ensures .small;
       };
     })
 

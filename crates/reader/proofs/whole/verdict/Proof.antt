@@ -69,8 +69,8 @@ returns-2 c =
 abbrev start : tie.Else2 → tie.Start
 start c = c .before .before .before .before
 
-abbrev read-up : tie.After-gas-total → tie.Else2
-read-up c = c .before .before .before .before
+abbrev read-up : tie.After-total-gas → tie.Else2
+read-up c = c .before .before .before
 
 -- where the gas was found within its limits, from where the walls were looked at
 abbrev gas-good : tie.After-all-read → tie.Else3
@@ -88,7 +88,7 @@ returns-3 c =
     let d = c .before .before .before in
     let g = d .before in
     let a = start (read-up g) .args in
-    let w = summed (g .gas-total .ensures) (faulty _ _ (fault-within _ _ _ (d .checked .ensures)) (c .before .if3 .taken)) in
+    let w = summed (g .total-gas .ensures) (faulty _ _ (fault-within _ _ _ (d .checked .ensures)) (c .before .if3 .taken)) in
     c .refused2 .ensures ∙ sym (all-read-up (read-up g) ∙ too-much (a .p) (a .sheet) w)
 
 -- the gas is within its limits, and each wall has been looked at
@@ -99,7 +99,7 @@ by-walls r t e =
     let d = gas-good r .before .before in
     let g = d .before in
     let a = start (read-up g) .args in
-    let w = summed (g .gas-total .ensures) (clean _ _ (fault-within _ _ _ (d .checked .ensures)) (gas-good r .if3 .left)) in
+    let w = summed (g .total-gas .ensures) (clean _ _ (fault-within _ _ _ (d .checked .ensures)) (gas-good r .if3 .left)) in
     sym (all-read-up (read-up g) ∙ by-reading (a .p) (a .sheet) t w (sym (r .all-read .ensures) ∙ e))
 
 returns-4 : tie.Need-returns-4

@@ -12,7 +12,7 @@ use lib.Signed.{leZ}
 use mir.Syntax.{w32}
 use mir.Val.{SFits}
 use mir.Facts.{toZ-ofZ}
-use Rattle.formulas.specs.Tables.{lineOf, lineAt}
+use Rattle.formulas.specs.Tables.{rowOf, straightAt}
 use Rattle.solids.specs.Steps.{RowIs}
 use Rattle.solids.proofs.material.row.Statement.{statement}
 use Rattle.solids.proofs.material.row.Tie as tie
@@ -22,16 +22,16 @@ alike true m = refl
 alike false m = refl
 
 -- a code with one line
-single : (m : ℕ) (T : ℤ) → eqb m 3 ≡ false → eqb m 12 ≡ false → lineOf m T ≡ m
+single : (m : ℕ) (T : ℤ) → eqb m 3 ≡ false → eqb m 12 ≡ false → rowOf m T ≡ m
 single m T a b = rw (a, b) (alike (leZ T (pos 8000)) m)
 
 itself : {m : ℕ} (T : ℤ) → m ≤ 18 → eqb m 3 ≡ false → eqb m 12 ≡ false → RowIs m T m
-itself {m} T h a b = record { small = omega arith; same = ap lineAt (sym (single m T a b)) }
+itself {m} T h a b = record { small = omega arith; same = ap straightAt (sym (single m T a b)) }
 
 clay : (m : ℕ) (T : ℤ) → 1 ≤ m → m ≤ 2 → RowIs m T 1
 clay zero T h k = absurd (omega arith)
-clay (suc zero) T h k = record { small = lit< tt; same = ap lineAt (sym (single 1 T refl refl)) }
-clay (suc (suc zero)) T h k = record { small = lit< tt; same = ap lineAt (sym (single 2 T refl refl)) }
+clay (suc zero) T h k = record { small = lit< tt; same = ap straightAt (sym (single 1 T refl refl)) }
+clay (suc (suc zero)) T h k = record { small = lit< tt; same = ap straightAt (sym (single 2 T refl refl)) }
 clay (suc (suc (suc m))) T h k = absurd (omega arith)
 
 -- a code with two lines, at and above the break
@@ -74,7 +74,7 @@ returns-6 c =
 
 returns-7 : tie.Need-returns-7
 returns-7 c =
-    record { small = lit< tt; same = rw (c .match .keys1) (ap lineAt (sym (single 15 (c .before .before .args .at .0) refl refl))) }
+    record { small = lit< tt; same = rw (c .match .keys1) (ap straightAt (sym (single 15 (c .before .before .args .at .0) refl refl))) }
 
 returns-8 : tie.Need-returns-8
 returns-8 c = clay (c .before .before .before .before .args .material .0) (c .before .before .before .before .args .at .0) (omega arith) (omega arith)

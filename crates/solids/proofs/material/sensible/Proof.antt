@@ -22,7 +22,7 @@ stored-requires c κs =
     rw (c .above .ensures) (record { one = fit ks (raw 0 ⟨*⟩ raw 1) tt; all = fit ks (raw 0 ⟨*⟩ raw 1 ⟨*⟩ (raw 2 ⟨-⟩ raw 3)) tt })
 
 joules-requires : tie.Need-joules-requires
-joules-requires c κs = search needs
+joules-requires c κs = rw (c .stored .ensures) (search needs)
 
 returns : tie.Need-returns
 unfolding sensible

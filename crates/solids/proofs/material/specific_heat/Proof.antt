@@ -9,8 +9,8 @@ use lib.Dec.{eqb}
 use lib.IntN.{pos, _*ℤ_, _+ℤ_}
 use Rattle.arith.proofs.Machine.{raw, num, _⟨*⟩_}
 use Rattle.arith.proofs.Order.{arithℤ}
-use Rattle.formulas.specs.declared.Line.{Line}
-use Rattle.formulas.specs.Tables.{lineOf}
+use Rattle.formulas.specs.declared.Straight.{Straight}
+use Rattle.formulas.specs.Tables.{rowOf}
 use Rattle.formulas.specs.Formulas.{specificHeat, byTable}
 use Rattle.formulas.proofs.Sizes.{limits, most, fit}
 use Rattle.solids.proofs.Straight.{straight-fits, straight-size}
@@ -32,14 +32,14 @@ returns c =
 row-requires : tie.Need-row-requires
 row-requires c κs = omega (arithℤ, c .before .before .before .pre .stuff .material .high)
 
-mul-straight : tie.Need-mul-straight
-mul-straight c = search needs
+mul-along : tie.Need-mul-along
+mul-along c = search needs
 
-array-copy-out-straight : tie.Need-array-copy-out-straight
-array-copy-out-straight c = search needs
+array-copy-out-along : tie.Need-array-copy-out-along
+array-copy-out-along c = search needs
 
-straight-requires : tie.Need-straight-requires
-straight-requires c κs = let w = c .before in straight-fits (w .row .result) (w .before .before .before .before .pre .at)
+along-requires : tie.Need-along-requires
+along-requires c κs = let w = c .before in straight-fits (w .row .result) (w .before .before .before .before .pre .at)
 
 returns-2 : tie.Need-returns-2
 unfolding specificHeat
@@ -49,11 +49,11 @@ returns-2 c =
     let m = s .args .stuff .material .0 in
     let T = s .args .at .0 in
     let other : eqb m 0 ≡ false = ne-eqb m 0 (λ e. omega arith) in
-    let e : c .straight .result .0 ≡ byTable (w .row .result) T = c .straight .ensures in
-    let same : byTable (w .row .result) T ≡ byTable (lineOf m T) T = ap (λ (x : Line). x .a *ℤ pos 100000 +ℤ x .b *ℤ T) (w .row .ensures .same) in
+    let e : c .along .result .0 ≡ byTable (w .row .result) T = c .along .ensures in
+    let same : byTable (w .row .result) T ≡ byTable (rowOf m T) T = ap (λ (x : Straight). x .a *ℤ pos 100000 +ℤ x .b *ℤ T) (w .row .ensures .same) in
     record { is = rw other (e ∙ same); size = rw e (straight-size (w .row .result) (s .pre .at)) }
 
 pub specific-heat-spec : {M : Type 1} → statement M
 specific-heat-spec =
     tie.close
-    (tie.spec given-requires returns row-requires mul-straight array-copy-out-straight straight-requires returns-2)
+    (tie.spec given-requires returns row-requires mul-along array-copy-out-along along-requires returns-2)

@@ -9,13 +9,15 @@ use lib.ListN.{length, getD}
 use Rattle.sheet.specs.declared.Part.{Part as Partˢ}
 use Rattle.sheet.specs.Firing.{Part}
 use Rattle.sheet.specs.Shown.{part}
+use Rattle.sheet.specs.Block.{sum}
+use Rattle.sheet.proofs.Sums.{unmapped, first}
 use Rattle.document.specs.Limits.{PartIn}
 use Rattle.formulas.specs.Rounding.{paper}
-use Rattle.formulas.specs.Formulas.{joule, sum, sensible, q8, x10}
+use Rattle.formulas.specs.Formulas.{joule, sensible, q8, x10}
 use Rattle.document.specs.Quantities.{partsMost}
 use Rattle.formulas.specs.Sizes.{sensibleMost}
 use Rattle.formulas.proofs.Sizes.{sized}
-use Rattle.formulas.proofs.Sums.{unmapped, first, each, Running, none, more-fits, summed, blocked}
+use Rattle.formulas.proofs.Sums.{each, Running, none, more-fits, summed, blocked}
 use Rattle.solids.proofs.Blank.{blankPart}
 use Rattle.solids.proofs.records.part_heats.Statement.{statement}
 use Rattle.solids.proofs.records.part_heats.Tie as tie

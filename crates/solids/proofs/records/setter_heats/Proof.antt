@@ -9,13 +9,15 @@ use lib.ListN.{length, getD}
 use Rattle.sheet.specs.declared.Setter.{Setter as Setterˢ}
 use Rattle.sheet.specs.Firing.{Setter}
 use Rattle.sheet.specs.Shown.{setter}
+use Rattle.sheet.specs.Block.{sum}
+use Rattle.sheet.proofs.Sums.{unmapped, first}
 use Rattle.document.specs.Limits.{SetterIn}
 use Rattle.formulas.specs.Rounding.{paper}
-use Rattle.formulas.specs.Formulas.{joule, sum, sensible, q3, x5}
+use Rattle.formulas.specs.Formulas.{joule, sensible, q3, x5}
 use Rattle.document.specs.Quantities.{settersMost}
 use Rattle.formulas.specs.Sizes.{sensibleMost}
 use Rattle.formulas.proofs.Sizes.{sized}
-use Rattle.formulas.proofs.Sums.{unmapped, first, each, Running, none, more-fits, summed, blocked}
+use Rattle.formulas.proofs.Sums.{each, Running, none, more-fits, summed, blocked}
 use Rattle.solids.proofs.Blank.{blankSetter}
 use Rattle.solids.proofs.records.setter_heats.Statement.{statement}
 use Rattle.solids.proofs.records.setter_heats.Tie as tie

@@ -47,7 +47,7 @@ two-waters-requires c κs =
     })
 
 joules-requires : tie.Need-joules-requires
-joules-requires c κs = search needs
+joules-requires c κs = rw (c .two-waters .ensures) (search needs)
 
 returns : tie.Need-returns
 unfolding waterHeat

@@ -44,7 +44,7 @@ steam-requires c κs =
     })
 
 joules-requires : tie.Need-joules-requires
-joules-requires c κs = search needs
+joules-requires c κs = rw (c .steam .ensures) (search needs)
 
 pub x2-spec : {M : Type 1} → statement M
 x2-spec = tie.close (tie.spec degrees-requires above-requires steam-requires joules-requires returns)

@@ -8,8 +8,8 @@ use mir.Val.{SFits, toZ, ofZ}
 use mir.Facts.{toZ-ofZ}
 use Rattle.quantity.proofs.Casts.{widened, widens}
 use Rattle.burning.specs.Mixture.{Fits}
-use Rattle.burning.proofs.mixture.brighter.Statement.{statement}
-use Rattle.burning.proofs.mixture.brighter.Tie as tie
+use Rattle.burning.proofs.mixture.burning_with.Statement.{statement}
+use Rattle.burning.proofs.mixture.burning_with.Tie as tie
 
 -- a share as its bits, in 64 of them
 abbrev wide : ℤ → ℤ
@@ -62,5 +62,5 @@ returns c =
     let z = narrow (c .before .before .before .before .before .before .before .before .before .before .before .before) in
     record { air = sum-is a₁ w₁ z (s .pre .air); dry = sum-is a₂ w₂ z (s .pre .dry); vapour = sum-is a₃ w₃ z (s .pre .vapour) }
 
-pub brighter-spec : {M : Type 1} → statement M
-brighter-spec = tie.close (tie.spec cast-hundredths mul-t5 add-t6 mul-t7 add-t8 mul-t9 add-t10 returns)
+pub burning-with-spec : {M : Type 1} → statement M
+burning-with-spec = tie.close (tie.spec cast-hundredths mul-t5 add-t6 mul-t7 add-t8 mul-t9 add-t10 returns)

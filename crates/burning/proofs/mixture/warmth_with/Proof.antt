@@ -3,8 +3,8 @@ use borrow.Author.Needs.{needs}
 use mir.Syntax.{w32}
 use mir.Val.{SFits}
 use Rattle.quantity.proofs.Casts.{widened, widens}
-use Rattle.burning.proofs.mixture.warmer.Statement.{statement}
-use Rattle.burning.proofs.mixture.warmer.Tie as tie
+use Rattle.burning.proofs.mixture.warmth_with.Statement.{statement}
+use Rattle.burning.proofs.mixture.warmth_with.Tie as tie
 
 narrow : (c : tie.After-struct-told) → SFits w32 (c .before .before .args .share .0)
 narrow c = search needs
@@ -31,5 +31,5 @@ returns : tie.Need-returns
 returns c =
     rw (widened (narrow (c .before .before .before .before .before .before .before .before))) (record { cold = search needs; rise = search needs })
 
-pub warmer-spec : {M : Type 1} → statement M
-warmer-spec = tie.close (tie.spec cast-hundredths mul-t5 add-t6 sub-t7 mul-t8 add-t9 returns)
+pub warmth-with-spec : {M : Type 1} → statement M
+warmth-with-spec = tie.close (tie.spec cast-hundredths mul-t5 add-t6 sub-t7 mul-t8 add-t9 returns)

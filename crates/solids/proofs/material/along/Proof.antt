@@ -1,15 +1,15 @@
--- The line's numbers and the temperature are widened, and stand as they are. Assumes nothing.
+-- The coefficients and the temperature are widened, and stand as they are. Assumes nothing.
 use borrow.Author.Needs.{needs}
 use mir.Syntax.{w32}
 use mir.Val.{SFits}
 use Rattle.quantity.proofs.Casts.{widened, widens}
-use Rattle.solids.proofs.material.straight.Statement.{statement}
-use Rattle.solids.proofs.material.straight.Tie as tie
+use Rattle.solids.proofs.material.along.Statement.{statement}
+use Rattle.solids.proofs.material.along.Tie as tie
 
-start : (c : tie.After-struct-told) → SFits w32 (c .before .before .args .line .a)
+start : (c : tie.After-struct-told) → SFits w32 (c .before .before .args .straight .a)
 start c = search needs
 
-slope : (c : tie.After-struct-told2) → SFits w32 (c .before .before .before .before .args .line .b)
+slope : (c : tie.After-struct-told2) → SFits w32 (c .before .before .before .before .args .straight .b)
 slope c = search needs
 
 degrees : (c : tie.After-struct-told3) → SFits w32 (c .before .before .before .before .before .before .args .at .0)
@@ -36,5 +36,5 @@ add-t8 c = rw (widened (start (c .before .before .before .before)), widened (slo
 returns : tie.Need-returns
 returns c = rw (widened (start (c .before .before .before .before)), widened (slope (c .before .before)), widened (degrees c)) (search needs)
 
-pub straight-spec : {M : Type 1} → statement M
-straight-spec = tie.close (tie.spec cast-t3 mul-t4 cast-t5 cast-t6 mul-t7 add-t8 returns)
+pub along-spec : {M : Type 1} → statement M
+along-spec = tie.close (tie.spec cast-t3 mul-t4 cast-t5 cast-t6 mul-t7 add-t8 returns)
