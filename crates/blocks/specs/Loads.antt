@@ -5,7 +5,7 @@ use Rattle.sheet.specs.declared.Setters.{Setters}
 use Rattle.sheet.specs.declared.Parts.{Parts}
 use Rattle.sheet.specs.Shown.{setter, part}
 use Rattle.document.specs.Schema.{Row}
-use Rattle.document.specs.Reader.{Sheet, readPart}
+use Rattle.document.specs.Reader.{Sheet, readParagraph}
 use Rattle.document.specs.Rows.{setterOf, partOf}
 use Rattle.document.specs.Document01.{setterLine, partLine, setters, parts}
 use Rattle.sheet.specs.Blank.{blankSetter, blankPart}
@@ -25,10 +25,10 @@ abbrev pub PartRows : Parts → List Row → Type 0
 PartRows x = Filled part partOf blankPart 32 (x .count .0) (x .lines)
 
 abbrev pub SettersRead : List ℕ → Place → SetterBlock → Type 0
-SettersRead s p r = (seen : Sheet) → After s p (readPart (setters .part) seen) (r .place) (With setterLine seen (SetterRows (r .setters)))
+SettersRead s p r = (seen : Sheet) → After s p (readParagraph (setters .paragraph) seen) (r .place) (With setterLine seen (SetterRows (r .setters)))
 
 abbrev pub PartsRead : List ℕ → Place → PartBlock → Type 0
-PartsRead s p r = (seen : Sheet) → After s p (readPart (parts .part) seen) (r .place) (With partLine seen (PartRows (r .parts)))
+PartsRead s p r = (seen : Sheet) → After s p (readParagraph (parts .paragraph) seen) (r .place) (With partLine seen (PartRows (r .parts)))
 
 abbrev pub loadingSays : Loading → List Saying
 loadingSays r = saysAll setterLine (SetterRows (r .setters)) ∷ saysAll partLine (PartRows (r .parts)) ∷ []

@@ -4,7 +4,7 @@ pub mod setters;
 pub mod stages;
 
 ghost use Rattle.due.specs.Place.{Ready};
-ghost use Rattle.document.specs.Entries.{partsOf};
+ghost use Rattle.document.specs.Entries.{paragraphsOf};
 ghost use Rattle.document.specs.Document01.{loading};
 ghost use Rattle.due.specs.Said.{GroupRead};
 ghost use Rattle.blocks.specs.Loads.{loadingSays};
@@ -23,7 +23,7 @@ pub struct Loading {
 // The setters and the parts.
 pub fn loading_lines(s: &[u8], p: Place) -> Loading
     requires { ⌜ Ready (now s) p ⌝ }
-    ensures { λ r. ⌜ GroupRead (now (s .entry)) p (partsOf loading) (r .place) (loadingSays r) ⌝ }
+    ensures { λ r. ⌜ GroupRead (now (s .entry)) p (paragraphsOf loading) (r .place) (loadingSays r) ⌝ }
 {
     let a = setter_block(s, p);
     let q = a.place;

@@ -8,7 +8,7 @@ use Rattle.text.specs.Decimal.{digitsIn, digits, decimal}
 use Rattle.text.specs.Scanning.{upTo, begins}
 use Rattle.sheet.specs.Block.{sum}
 use Rattle.document.specs.Schema.{joined, bodyText, lineText, pieces, numbersOf, formedBy, outsideOf, judge}
-use Rattle.document.specs.Reader.{rowsText, sheetText, textOf, readLine, readRows, readParts, Good, readOf}
+use Rattle.document.specs.Reader.{rowsText, sheetText, textOf, readLine, readRows, readParagraphs, Good, readOf}
 use Rattle.document.specs.Editions.{entriesOf, document, sheetOf}
 use Rattle.document.specs.Rules.{Every}
 use Rattle.formulas.specs.Marked.{worked}
@@ -22,7 +22,7 @@ abbrev text : List ℕ
 text = textOf document (sheetOf worked)
 
 read : readOf document text ≡ Good (sheetOf worked)
-unfolding entriesOf readOf readParts readRows readLine judge formedBy upTo begins pieces numbersOf numberWithin unsigned digitsRead outsideOf sum textOf sheetText rowsText lineText bodyText joined decimal digits digitsIn
+unfolding entriesOf readOf readParagraphs readRows readLine judge formedBy upTo begins pieces numbersOf numberWithin unsigned digitsRead outsideOf sum textOf sheetText rowsText lineText bodyText joined decimal digits digitsIn
 read = refl
 
 below : Every (Near worked (λ w. cutDown)) (lines shuttle)

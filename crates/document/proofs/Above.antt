@@ -5,7 +5,7 @@ use mathlib.Core.List.{List, [], _∷_, _++_, map, map-append}
 use mathlib.Core.Logic.{⊎-elim}
 use mathlib.Core.Option.{none}
 use Rattle.document.specs.Schema.{Line, Row}
-use Rattle.document.specs.Reader.{Filled, Sheet, Rule, Part, one, many, lineOf, ruleOf, filled, Along, RowsKeep, PartKeeps, PartsKeep}
+use Rattle.document.specs.Reader.{Filled, Sheet, Rule, Paragraph, one, many, lineOf, ruleOf, filled, Along, RowsKeep, ParagraphKeeps, ParagraphsKeep}
 use Rattle.document.specs.Tests.{free}
 use Rattle.document.specs.Editions.{unruled}
 use Rattle.document.specs.Rules.{Some, Every, NoTwo}
@@ -78,10 +78,10 @@ module _ {A B : Type 0} (to : A → B) (P : List B → B → Type 0) where
       }
 
 -- THE RULES OF A SHEET, without form and range
-pub record RowsRuled (p : Part) (seen : Sheet) (rows : List Row) : Type 0 where
+pub record RowsRuled (p : Paragraph) (seen : Sheet) (rows : List Row) : Type 0 where
   pub each : Each (λ above row. ruleOf p (seen ++ filled (lineOf p) above) row ≡ none) [] rows
 
-abbrev pub Ruled : List Part → Sheet → Sheet → Type 0
+abbrev pub Ruled : List Paragraph → Sheet → Sheet → Type 0
 Ruled = Along (λ p seen f. RowsRuled p seen (f .rows))
 
 module _ (l : Line) (rule : Rule) (seen : Sheet) where
@@ -95,25 +95,25 @@ module _ (l : Line) (rule : Rule) (seen : Sheet) where
   rows-join above [] k m = tt
   rows-join above (row ∷ rows) k m = (k .0, m .0, rows-join (above ++ (row ∷ [])) rows (k .2) (m .1))
 
-pub part-split : (p : Part) (seen : Sheet) (f : Filled) → PartKeeps p seen f → PartKeeps (unruled p) seen f × RowsRuled p seen (f .rows)
-part-split (one l rule) seen f k = let s = rows-split l rule seen [] (f .rows) (k .2) in ((k .0, k .1, s .0), record { each = s .1 })
-part-split (many key a b l rule) seen f k = let s = rows-split l rule seen [] (f .rows) (k .2) in ((k .0, k .1, s .0), record { each = s .1 })
+pub paragraph-split : (p : Paragraph) (seen : Sheet) (f : Filled) → ParagraphKeeps p seen f → ParagraphKeeps (unruled p) seen f × RowsRuled p seen (f .rows)
+paragraph-split (one l rule) seen f k = let s = rows-split l rule seen [] (f .rows) (k .2) in ((k .0, k .1, s .0), record { each = s .1 })
+paragraph-split (many key a b l rule) seen f k = let s = rows-split l rule seen [] (f .rows) (k .2) in ((k .0, k .1, s .0), record { each = s .1 })
 
-part-join : (p : Part) (seen : Sheet) (f : Filled) → PartKeeps (unruled p) seen f → RowsRuled p seen (f .rows) → PartKeeps p seen f
-part-join (one l rule) seen f k m = (k .0, k .1, rows-join l rule seen [] (f .rows) (k .2) (m .each))
-part-join (many key a b l rule) seen f k m = (k .0, k .1, rows-join l rule seen [] (f .rows) (k .2) (m .each))
+paragraph-join : (p : Paragraph) (seen : Sheet) (f : Filled) → ParagraphKeeps (unruled p) seen f → RowsRuled p seen (f .rows) → ParagraphKeeps p seen f
+paragraph-join (one l rule) seen f k m = (k .0, k .1, rows-join l rule seen [] (f .rows) (k .2) (m .each))
+paragraph-join (many key a b l rule) seen f k m = (k .0, k .1, rows-join l rule seen [] (f .rows) (k .2) (m .each))
 
-pub parts-split : (ps : List Part) (seen sheet : Sheet) → PartsKeep ps seen sheet → PartsKeep (map unruled ps) seen sheet × Ruled ps seen sheet
-parts-split [] seen [] k = (tt, tt)
-parts-split [] seen (f ∷ fs) k = absurd k
-parts-split (p ∷ ps) seen [] k = absurd k
-parts-split (p ∷ ps) seen (f ∷ fs) k =
-    let a = part-split p seen f (k .0) in
-    let b = parts-split ps (seen ++ (f ∷ [])) fs (k .1) in
+pub paragraphs-split : (ps : List Paragraph) (seen sheet : Sheet) → ParagraphsKeep ps seen sheet → ParagraphsKeep (map unruled ps) seen sheet × Ruled ps seen sheet
+paragraphs-split [] seen [] k = (tt, tt)
+paragraphs-split [] seen (f ∷ fs) k = absurd k
+paragraphs-split (p ∷ ps) seen [] k = absurd k
+paragraphs-split (p ∷ ps) seen (f ∷ fs) k =
+    let a = paragraph-split p seen f (k .0) in
+    let b = paragraphs-split ps (seen ++ (f ∷ [])) fs (k .1) in
     ((a .0, b .0), (a .1, b .1))
 
-pub parts-join : (ps : List Part) (seen sheet : Sheet) → PartsKeep (map unruled ps) seen sheet → Ruled ps seen sheet → PartsKeep ps seen sheet
-parts-join [] seen [] k m = tt
-parts-join [] seen (f ∷ fs) k m = absurd m
-parts-join (p ∷ ps) seen [] k m = absurd m
-parts-join (p ∷ ps) seen (f ∷ fs) k m = (part-join p seen f (k .0) (m .0), parts-join ps (seen ++ (f ∷ [])) fs (k .1) (m .1))
+pub paragraphs-join : (ps : List Paragraph) (seen sheet : Sheet) → ParagraphsKeep (map unruled ps) seen sheet → Ruled ps seen sheet → ParagraphsKeep ps seen sheet
+paragraphs-join [] seen [] k m = tt
+paragraphs-join [] seen (f ∷ fs) k m = absurd m
+paragraphs-join (p ∷ ps) seen [] k m = absurd m
+paragraphs-join (p ∷ ps) seen (f ∷ fs) k m = (paragraph-join p seen f (k .0) (m .0), paragraphs-join ps (seen ++ (f ∷ [])) fs (k .1) (m .1))

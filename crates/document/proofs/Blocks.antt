@@ -1,4 +1,4 @@
--- Rows, parts and sheets: their text is read as themselves, and what is read is their text. Assumes nothing.
+-- Rows, paragraphs and sheets: their text is read as themselves, and what is read is their text. Assumes nothing.
 use Prim.Native.Nat.{ℕ, zero, suc, _+_}
 use mathlib.Core.Path.{_≡_, refl, sym, ap, _∙_, subst}
 use mathlib.Core.List.{List, [], _∷_, _++_, append-assoc, append-nil}
@@ -10,7 +10,7 @@ use lib.Seq.{append-snoc, drop-append-seam}
 use lib.IntN.{ℤ, pos, negsuc, natAbs}
 use Rattle.sheet.specs.declared.Refusal.{Refusal}
 use Rattle.document.specs.Schema.{Line, Row, plain, lineText, fits, within, inRanges, sound, Judged, refused, values, judge}
-use Rattle.document.specs.Reader.{Filled, Sheet, Rule, Part, one, many, to, soundPart, soundParts, countLine, rowsText, partText, sheetText, stopped, got, _>>=_, return, judged, readLine, filled, readRows, readPart, readParts, RowsKeep, PartKeeps, PartsKeep}
+use Rattle.document.specs.Reader.{Filled, Sheet, Rule, Paragraph, one, many, to, soundParagraph, soundParagraphs, countLine, rowsText, paragraphText, sheetText, stopped, got, _>>=_, return, judged, readLine, filled, readRows, readParagraph, readParagraphs, RowsKeep, ParagraphKeeps, ParagraphsKeep}
 use Rattle.document.proofs.Cases.{clash, both, on-none, andThen-got}
 use Rattle.document.proofs.Judged.{is-fit, judge-text, judge-values}
 
@@ -98,23 +98,23 @@ keyed l seen f e = ap (λ (k : List ℕ). seen ++ (record { key = k; rows = f .r
 abbrev pub countOf : List Row → Row
 countOf rows = plain (pos (length rows) ∷ [])
 
-pub part-text : (p : Part) (seen : Sheet) (f : Filled) (n : ℕ) (rest : List ℕ) → soundPart p ≡ true → PartKeeps p seen f
-    → (m : ℕ) × (readPart p seen n (partText p (f .rows) ++ rest) ≡ got (seen ++ (f ∷ [])) m rest)
-part-text (one l rule) seen f n rest s h =
+pub paragraph-text : (p : Paragraph) (seen : Sheet) (f : Filled) (n : ℕ) (rest : List ℕ) → soundParagraph p ≡ true → ParagraphKeeps p seen f
+    → (m : ℕ) × (readParagraph p seen n (paragraphText p (f .rows) ++ rest) ≡ got (seen ++ (f ∷ [])) m rest)
+paragraph-text (one l rule) seen f n rest s h =
     let a = rows-text l rule seen s (f .rows) [] n rest (h .2) in
     let b = rw (h .1) at a in
     (n + 1, rw b (ap (λ (x : Sheet). got x (n + 1) rest) (keyed l seen f (h .0))))
-part-text (many key a b l rule) seen f n rest s h =
+paragraph-text (many key a b l rule) seen f n rest s h =
     let t = both (sound (countLine key a b)) (sound l) s in
     let c = line-text (countLine key a b) (λ row. none) (countOf (f .rows)) n (rowsText l (f .rows) ++ rest) (t .0) (h .1) refl in
     let d = rows-text l rule seen (t .1) (f .rows) [] (suc n) rest (h .2) in
     (suc n + length (f .rows), rw (append-assoc (lineText (countLine key a b) (countOf (f .rows))) (rowsText l (f .rows)) rest, c, d) (ap (λ (x : Sheet). got x (suc n + length (f .rows)) rest) (keyed l seen f (h .0))))
 
-pub record PartRead (p : Part) (seen sheet : Sheet) (text rest : List ℕ) : Type 0 where
+pub record PartRead (p : Paragraph) (seen sheet : Sheet) (text rest : List ℕ) : Type 0 where
   pub part : Filled
   pub made : sheet ≡ seen ++ (part ∷ [])
-  pub kept : PartKeeps p seen part
-  pub whole : text ≡ partText p (part .rows) ++ rest
+  pub kept : ParagraphKeeps p seen part
+  pub whole : text ≡ paragraphText p (part .rows) ++ rest
 
 -- a count in its range is a whole number
 count-numbers : (a b : ℕ) (zs : List ℤ) → inRanges (to a b ∷ []) zs ≡ true → zs ≡ pos (natAbs (getD zs 0 (pos 0))) ∷ []
@@ -127,9 +127,9 @@ count-numbers a b (z ∷ y ∷ zs) e = let f = both (within (to a b) z) false e 
 count-row : (key : List ℕ) (a b : ℕ) (row : Row) → fits (countLine key a b) row ≡ true → row ≡ plain (pos (natAbs (getD (row .numbers) 0 (pos 0))) ∷ [])
 count-row key a b row h = let f = is-fit (countLine key a b) row h in f .unnamed ∙ ap plain (count-numbers a b (row .numbers) (f .inside))
 
-pub part-got : (p : Part) (seen sheet : Sheet) (n : ℕ) (text : List ℕ) (m : ℕ) (rest : List ℕ) → readPart p seen n text ≡ got sheet m rest
+pub paragraph-got : (p : Paragraph) (seen sheet : Sheet) (n : ℕ) (text : List ℕ) (m : ℕ) (rest : List ℕ) → readParagraph p seen n text ≡ got sheet m rest
     → PartRead p seen sheet text rest
-part-got (one l rule) seen sheet n text m rest e =
+paragraph-got (one l rule) seen sheet n text m rest e =
     let u = block-got l rule seen 1 sheet n text m rest e in
     let d = u .2 in
     record {
@@ -138,7 +138,7 @@ part-got (one l rule) seen sheet n text m rest e =
       kept = (refl, d .count, d .kept);
       whole = d .whole;
     }
-part-got (many key a b l rule) seen sheet n text m rest e =
+paragraph-got (many key a b l rule) seen sheet n text m rest e =
     let k : Row → ℕ = λ count. natAbs (getD (count .numbers) 0 (pos 0)) in
     let s = andThen-got (readLine (countLine key a b) (λ row. none) n text) (λ count. readRows (k count) l rule seen [] >>= (λ rows. return (seen ++ filled l rows))) sheet m rest e in
     let c = line-got (countLine key a b) (λ row. none) (s .was) n text (s .line) (s .left) (s .first) in
@@ -153,36 +153,36 @@ part-got (many key a b l rule) seen sheet n text m rest e =
     }
 
 -- ALL PARTS
-pub parts-text : (ps : List Part) (seen sheet : Sheet) (n : ℕ) (rest : List ℕ) → soundParts ps ≡ true → PartsKeep ps seen sheet
-    → (m : ℕ) × (readParts ps seen n (sheetText ps sheet ++ rest) ≡ got (seen ++ sheet) m rest)
-unfolding readParts sheetText
-parts-text [] seen [] n rest s h = (n, rw append-nil)
-parts-text [] seen (f ∷ sheet) n rest s h = absurd h
-parts-text (p ∷ ps) seen [] n rest s h = absurd h
-parts-text (p ∷ ps) seen (f ∷ sheet) n rest s h =
-    let t = both (soundPart p) (soundParts ps) s in
-    let a = part-text p seen f n (sheetText ps sheet ++ rest) (t .0) (h .0) in
-    let b = parts-text ps (seen ++ (f ∷ [])) sheet (a .0) rest (t .1) (h .1) in
-    (b .0, rw (append-assoc (partText p (f .rows)) (sheetText ps sheet) rest, a .1, ← append-snoc seen f sheet) (b .1))
+pub paragraphs-text : (ps : List Paragraph) (seen sheet : Sheet) (n : ℕ) (rest : List ℕ) → soundParagraphs ps ≡ true → ParagraphsKeep ps seen sheet
+    → (m : ℕ) × (readParagraphs ps seen n (sheetText ps sheet ++ rest) ≡ got (seen ++ sheet) m rest)
+unfolding readParagraphs sheetText
+paragraphs-text [] seen [] n rest s h = (n, rw append-nil)
+paragraphs-text [] seen (f ∷ sheet) n rest s h = absurd h
+paragraphs-text (p ∷ ps) seen [] n rest s h = absurd h
+paragraphs-text (p ∷ ps) seen (f ∷ sheet) n rest s h =
+    let t = both (soundParagraph p) (soundParagraphs ps) s in
+    let a = paragraph-text p seen f n (sheetText ps sheet ++ rest) (t .0) (h .0) in
+    let b = paragraphs-text ps (seen ++ (f ∷ [])) sheet (a .0) rest (t .1) (h .1) in
+    (b .0, rw (append-assoc (paragraphText p (f .rows)) (sheetText ps sheet) rest, a .1, ← append-snoc seen f sheet) (b .1))
 
-pub record PartsRead (ps : List Part) (seen all : Sheet) (text rest : List ℕ) : Type 0 where
+pub record PartsRead (ps : List Paragraph) (seen all : Sheet) (text rest : List ℕ) : Type 0 where
   pub parts : Sheet
   pub made : all ≡ seen ++ parts
-  pub kept : PartsKeep ps seen parts
+  pub kept : ParagraphsKeep ps seen parts
   pub whole : text ≡ sheetText ps parts ++ rest
 
-pub parts-got : (ps : List Part) (seen sheet : Sheet) (n : ℕ) (text : List ℕ) (m : ℕ) (rest : List ℕ) → readParts ps seen n text ≡ got sheet m rest
+pub paragraphs-got : (ps : List Paragraph) (seen sheet : Sheet) (n : ℕ) (text : List ℕ) (m : ℕ) (rest : List ℕ) → readParagraphs ps seen n text ≡ got sheet m rest
     → PartsRead ps seen sheet text rest
-unfolding readParts sheetText
-parts-got [] seen sheet n text m rest e = record { parts = []; made = sym (append-nil seen ∙ cc); kept = tt; whole = cc }
-parts-got (p ∷ ps) seen sheet n text m rest e =
-    let s = andThen-got (readPart p seen n text) (λ top. readParts ps top) sheet m rest e in
-    let a = part-got p seen (s .was) n text (s .line) (s .left) (s .first) in
-    let b = parts-got ps (s .was) sheet (s .line) (s .left) m rest (s .then) in
+unfolding readParagraphs sheetText
+paragraphs-got [] seen sheet n text m rest e = record { parts = []; made = sym (append-nil seen ∙ cc); kept = tt; whole = cc }
+paragraphs-got (p ∷ ps) seen sheet n text m rest e =
+    let s = andThen-got (readParagraph p seen n text) (λ top. readParagraphs ps top) sheet m rest e in
+    let a = paragraph-got p seen (s .was) n text (s .line) (s .left) (s .first) in
+    let b = paragraphs-got ps (s .was) sheet (s .line) (s .left) m rest (s .then) in
     let f = a .part in
     record {
       parts = f ∷ b .parts;
       made = b .made ∙ ap (λ (y : Sheet). y ++ b .parts) (a .made) ∙ append-snoc seen f (b .parts);
-      kept = (a .kept, subst (λ (y : Sheet). PartsKeep ps y (b .parts)) (a .made) (b .kept));
-      whole = followed (partText p (f .rows)) (sheetText ps (b .parts)) rest (a .whole) (b .whole);
+      kept = (a .kept, subst (λ (y : Sheet). ParagraphsKeep ps y (b .parts)) (a .made) (b .kept));
+      whole = followed (paragraphText p (f .rows)) (sheetText ps (b .parts)) rest (a .whole) (b .whole);
     }

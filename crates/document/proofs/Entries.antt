@@ -10,10 +10,10 @@ use lib.Signed.{_<ℤ_}
 use Rattle.text.specs.Bytes.{bytes}
 use Rattle.sheet.specs.Firing.{Stage, Wall, Firing}
 use Rattle.document.specs.Schema.{Row}
-use Rattle.document.specs.Reader.{Sheet, rowsOf, Part, keyOf}
+use Rattle.document.specs.Reader.{Sheet, rowsOf, Paragraph, keyOf}
 use Rattle.document.specs.Quantities.{product, ambient, heating, fuelTemperature, share, moisture, mass, sectionNumber, stageNumber, surface, nearAir, stagesMost, settersMost, partsMost, sectionsMost, wallsMost}
 use Rattle.document.specs.Tests.{sumOf, weigh, airWeights}
-use Rattle.document.specs.Entries.{Entry, partsOf}
+use Rattle.document.specs.Entries.{Entry, paragraphsOf}
 use Rattle.document.specs.Document01.{gasLine, stageLine, setterLine, partLine, sectionLine, wallLine, opening, heading, fuelling, drying, staging, loading, surfaces, ending}
 use Rattle.document.specs.Editions.{entriesOf}
 use Rattle.document.specs.Rules.{Every, NoTwo, MaterialKeeps, GasKeeps, SameNumber, Listed, Staged, Warm}
@@ -23,26 +23,26 @@ use Rattle.document.proofs.Judged.{is-fit}
 use Rattle.document.proofs.Rules.{material-asks, gas-asks}
 use Rattle.document.proofs.Lists.{every-with, every-join, every-split, no-two-imp}
 use Rattle.document.proofs.Above.{Same}
-use Rattle.document.proofs.Forms.{OneRow, PartForm, Keyed, distinct}
+use Rattle.document.proofs.Forms.{OneRow, ParagraphForm, Keyed, distinct}
 use Rattle.document.proofs.Rows.{row-back, one-back, many-back, end-back}
 use Rattle.document.proofs.Fields.{all-in, one-in, many-in, few, not-below}
 use Rattle.document.proofs.Ruled.{RuledAt, alone, unasked, sections-ruled, Readings, ordered, walls-ruled}
 
 -- ONE ENTRY: what the firing of a sheet says there is what the sheet says
 pub record Lawful (edition : ℤ) (e : Entry) : Type 0 where
-  pub back : (s : Sheet) → editionIn s ≡ edition → PartForm (e .part) (rowsOf (keyOf (e .part)) s) → e .says (firingOf s) ≡ rowsOf (keyOf (e .part)) s
+  pub back : (s : Sheet) → editionIn s ≡ edition → ParagraphForm (e .paragraph) (rowsOf (keyOf (e .paragraph)) s) → e .says (firingOf s) ≡ rowsOf (keyOf (e .paragraph)) s
 
 abbrev pub FormedAt : Sheet → Entry → Type 0
-FormedAt s e = PartForm (e .part) (rowsOf (keyOf (e .part)) s)
+FormedAt s e = ParagraphForm (e .paragraph) (rowsOf (keyOf (e .paragraph)) s)
 
-abbrev pub allLines : ℤ → List Part
-allLines edition = partsOf (opening ∷ entriesOf edition)
+abbrev pub allLines : ℤ → List Paragraph
+allLines edition = paragraphsOf (opening ∷ entriesOf edition)
 
 -- A GROUP: what its rules ask of the sheet, and what is then known of the firing
 pub record Group (edition : ℤ) (es : List Entry) (Known : Firing → Type 0) (Asked : Sheet → Type 0) : Type 0 where
   pub each : Every (Lawful edition) es
   pub known : (s : Sheet) → editionIn s ≡ edition → Every (FormedAt s) es → Asked s → Known (firingOf s)
-  pub asked : (s : Sheet) → editionIn s ≡ edition → Keyed (allLines edition) s → Same (Every (λ e. RuledAt s (e .part)) es) (Asked s)
+  pub asked : (s : Sheet) → editionIn s ≡ edition → Keyed (allLines edition) s → Same (Every (λ e. RuledAt s (e .paragraph)) es) (Asked s)
 
 infixr 5 _then_
 pub _then_ : {edition : ℤ} {a b : List Entry} {K L : Firing → Type 0} {A B : Sheet → Type 0}
@@ -51,8 +51,8 @@ _then_ {edition = edition} {a = a} {b = b} g h = record {
   each = every-join (Lawful edition) a b (g .each) (h .each);
   known = λ s e k r. let m = every-split (FormedAt s) a b k in (g .known s e (m .0) (r .0), h .known s e (m .1) (r .1));
   asked = λ s e k. record {
-    to = λ r. let m = every-split (λ x. RuledAt s (x .part)) a b r in (g .asked s e k .to (m .0), h .asked s e k .to (m .1));
-    from = λ r. every-join (λ x. RuledAt s (x .part)) a b (g .asked s e k .from (r .0)) (h .asked s e k .from (r .1));
+    to = λ r. let m = every-split (λ x. RuledAt s (x .paragraph)) a b r in (g .asked s e k .to (m .0), h .asked s e k .to (m .1));
+    from = λ r. every-join (λ x. RuledAt s (x .paragraph)) a b (g .asked s e k .from (r .0)) (h .asked s e k .from (r .1));
   };
 }
 

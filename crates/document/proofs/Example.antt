@@ -13,7 +13,7 @@ use Rattle.text.specs.Scanning.{upTo, begins}
 use Rattle.sheet.specs.Refusals as refusals
 use Rattle.sheet.specs.Block.{sum}
 use Rattle.document.specs.Schema.{joined, bodyText, lineText, pieces, numbersOf, formedBy, outsideOf, judge}
-use Rattle.document.specs.Reader.{rowsText, sheetText, textOf, readLine, readRows, readParts, Answer, Refused, Good, readOf, sameKey}
+use Rattle.document.specs.Reader.{rowsText, sheetText, textOf, readLine, readRows, readParagraphs, Answer, Refused, Good, readOf, sameKey}
 use Rattle.document.specs.Editions.{entriesOf, document}
 
 -- the sheet of document 01, with other values in some places and with other lines from `section` on
@@ -102,7 +102,7 @@ right (c ∷ cs) = sameKey (heard (readOf document (c .text))) (c .number ∷ c 
 
 -- the table holds
 pub edges : right cases ≡ true
-unfolding entriesOf readOf readParts readRows readLine judge formedBy upTo begins pieces numbersOf numberWithin unsigned digitsRead outsideOf sum
+unfolding entriesOf readOf readParagraphs readRows readLine judge formedBy upTo begins pieces numbersOf numberWithin unsigned digitsRead outsideOf sum
 edges = refl
 
 -- the text of the firing that is read is the text
@@ -111,5 +111,5 @@ again (Refused r n) = []
 again (Good s) = textOf document s
 
 pub text-again : again (readOf document (section whole)) ≡ section whole
-unfolding entriesOf readOf readParts readRows readLine judge formedBy upTo begins pieces numbersOf numberWithin unsigned digitsRead outsideOf sum textOf sheetText rowsText lineText bodyText joined decimal digits digitsIn
+unfolding entriesOf readOf readParagraphs readRows readLine judge formedBy upTo begins pieces numbersOf numberWithin unsigned digitsRead outsideOf sum textOf sheetText rowsText lineText bodyText joined decimal digits digitsIn
 text-again = refl

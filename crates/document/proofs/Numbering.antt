@@ -15,7 +15,7 @@ use Rattle.sheet.specs.declared.Refusal.the-variants.{TooLong}
 use Rattle.sheet.specs.Refusals.{number}
 use Rattle.sheet.proofs.Refusals.{numbered}
 use Rattle.document.specs.Schema.{on, Line, Row, Judged, refused, values, judge, lineText}
-use Rattle.document.specs.Reader.{Sheet, Rule, Part, one, many, countLine, Document, Read, stopped, got, Reader, andThen, judged, readLine, filled, readRows, readPart, readParts, readLines, Answer, Refused, Good, judgedWhole, readOf}
+use Rattle.document.specs.Reader.{Sheet, Rule, Paragraph, one, many, countLine, Document, Read, stopped, got, Reader, andThen, judged, readLine, filled, readRows, readParagraph, readParagraphs, readLines, Answer, Refused, Good, judgedWhole, readOf}
 use Rattle.document.specs.Editions.{document}
 use Rattle.document.proofs.Judged.{judge-values, line-length}
 
@@ -54,28 +54,28 @@ rows-reached (suc k) l rule seen rows n text most h =
     (line-reached l (rule (seen ++ filled l rows)) n text most h)
     (λ row m rest g. rows-reached k l rule seen (rows ++ (row ∷ [])) m rest most g)
 
-part-reached : (p : Part) (seen : Sheet) (n : ℕ) (text : List ℕ) (most : ℕ) → n + length text ≤ most → Reached most (readPart p seen n text)
-part-reached (one l rule) seen n text most h =
+paragraph-reached : (p : Paragraph) (seen : Sheet) (n : ℕ) (text : List ℕ) (most : ℕ) → n + length text ≤ most → Reached most (readParagraph p seen n text)
+paragraph-reached (one l rule) seen n text most h =
     then-reached (readRows 1 l rule seen [] n text) (λ rows m rest. got (seen ++ filled l rows) m rest) most
     (rows-reached 1 l rule seen [] n text most h) (λ rows m rest g. g)
-part-reached (many key a b l rule) seen n text most h =
+paragraph-reached (many key a b l rule) seen n text most h =
     then-reached (readLine (countLine key a b) (λ row. none) n text) _ most (line-reached (countLine key a b) (λ row. none) n text most h)
     (λ count m rest g.
     let k = natAbs (getD (count .numbers) 0 (pos 0)) in
     then-reached (readRows k l rule seen [] m rest) (λ rows m′ rest′. got (seen ++ filled l rows) m′ rest′) most
     (rows-reached k l rule seen [] m rest most g) (λ rows m′ rest′ g′. g′))
 
-parts-reached : (ps : List Part) (seen : Sheet) (n : ℕ) (text : List ℕ) (most : ℕ) → n + length text ≤ most → Reached most (readParts ps seen n text)
-unfolding readParts
-parts-reached [] seen n text most h = h
-parts-reached (p ∷ ps) seen n text most h =
-    then-reached (readPart p seen n text) (λ sheet. readParts ps sheet) most (part-reached p seen n text most h)
-    (λ sheet m rest g. parts-reached ps sheet m rest most g)
+paragraphs-reached : (ps : List Paragraph) (seen : Sheet) (n : ℕ) (text : List ℕ) (most : ℕ) → n + length text ≤ most → Reached most (readParagraphs ps seen n text)
+unfolding readParagraphs
+paragraphs-reached [] seen n text most h = h
+paragraphs-reached (p ∷ ps) seen n text most h =
+    then-reached (readParagraph p seen n text) (λ sheet. readParagraphs ps sheet) most (paragraph-reached p seen n text most h)
+    (λ sheet m rest g. paragraphs-reached ps sheet m rest most g)
 
 lines-reached : (d : Document) (n : ℕ) (text : List ℕ) (most : ℕ) → n + length text ≤ most → Reached most (readLines d n text)
 lines-reached d n text most h =
-    then-reached (readPart (d .first) [] n text) (λ top. readParts (d .below top) top) most (part-reached (d .first) [] n text most h)
-    (λ top m rest g. parts-reached (d .below top) top m rest most g)
+    then-reached (readParagraph (d .first) [] n text) (λ top. readParagraphs (d .below top) top) most (paragraph-reached (d .first) [] n text most h)
+    (λ top m rest g. paragraphs-reached (d .below top) top m rest most g)
 
 -- of an answer
 abbrev Heard : Answer → Type 0

@@ -8,7 +8,7 @@ use Rattle.text.specs.Bytes.{bytes}
 use Rattle.sheet.specs.declared.Refusal.{Refusal}
 use Rattle.sheet.specs.Firing.{Wall}
 use Rattle.document.specs.Schema.{Field, Row, at}
-use Rattle.document.specs.Reader.{Sheet, rowsOf, Part, many, lineOf, ruleOf, keyOf, filled}
+use Rattle.document.specs.Reader.{Sheet, rowsOf, Paragraph, many, lineOf, ruleOf, keyOf, filled}
 use Rattle.document.specs.Quantities.{wallsMost}
 use Rattle.document.specs.Tests.{wallFault, wall-rule}
 use Rattle.document.specs.Entries.{line}
@@ -21,10 +21,10 @@ use Rattle.document.proofs.Lists.{every-with, every-one}
 use Rattle.document.proofs.Above.{Same, Each, each-imp, each-with, each-every, every-each, no-two, two-never, each-made, RowsRuled}
 use Rattle.document.proofs.Forms.{Keyed, aboveKey, settled, seen-above, seen-own}
 
-abbrev pub RuledAt : Sheet → Part → Type 0
+abbrev pub RuledAt : Sheet → Paragraph → Type 0
 RuledAt s p = RowsRuled p (aboveKey (keyOf p) s) (rowsOf (keyOf p) s)
 
-module _ (s : Sheet) (p : Part) where
+module _ (s : Sheet) (p : Paragraph) where
   -- one that does not look above
   pub alone : {P : Row → Type 0} → ((seen : Sheet) (row : Row) → Asks (ruleOf p seen row) (P row)) → Same (RuledAt s p) (Every P (rowsOf (keyOf p) s))
   alone h = record {
@@ -48,9 +48,9 @@ module _ (s : Sheet) (p : Part) where
   unasked h = record { each = every-each {P = λ row. Unit {0}} (λ above row m. h _ row) [] (rowsOf (keyOf p) s) (every-one (λ row. tt) (rowsOf (keyOf p) s)) }
 
 -- 6: a section, and those above it
-pub sections-ruled : (s : Sheet) → Same (RuledAt s (sections .part)) (NoTwo SameNumber (sectionsIn s))
+pub sections-ruled : (s : Sheet) → Same (RuledAt s (sections .paragraph)) (NoTwo SameNumber (sectionsIn s))
 sections-ruled s =
-    let m = among s (sections .part) sectionOf (λ above x. ¬ Some (SameNumber x) above)
+    let m = among s (sections .paragraph) sectionOf (λ above x. ¬ Some (SameNumber x) above)
     (λ above row. rw (seen-own (bytes "section") s (filled sectionLine above)) (section-asks (map sectionOf above) (sectionOf row))) in
     record { to = λ r. no-two SameNumber (sectionsIn s) (m .to r); from = λ k. m .from (two-never SameNumber (sectionsIn s) k) }
 
@@ -62,10 +62,10 @@ pub record Readings (s : Sheet) : Type 0 where
   pub warm : Every Warm (wallsIn s)
 
 -- neither the first line nor the stages nor the sections stand below the readings
-abbrev pub ordered : List Part → Bool
+abbrev pub ordered : List Paragraph → Bool
 ordered ps = settled (bytes "sheet") (bytes "wall") ps && (settled (bytes "stage") (bytes "wall") ps && settled (bytes "section") (bytes "wall") ps)
 
-module _ (columns : List Field) (s : Sheet) (ps : List Part) (e : Keyed ps s) (o : ordered ps ≡ true) where
+module _ (columns : List Field) (s : Sheet) (ps : List Paragraph) (e : Keyed ps s) (o : ordered ps ≡ true) where
   -- a reading's rule by the rows that it looks at: so far of the sheet, and of the whole
   abbrev looked : Row → List Row → List Row → List Row → List Row → Option Refusal
   looked row top stages sections above =
@@ -86,7 +86,7 @@ module _ (columns : List Field) (s : Sheet) (ps : List Part) (e : Keyed ps s) (o
       ∙ ap (λ (x : List Row). looked row (all (bytes "sheet")) (all (bytes "stage")) x (seen W)) (seen-above (bytes "section") W ps s more e refl (c .1))
       ∙ ap (λ (x : List Row). looked row (all (bytes "sheet")) (all (bytes "stage")) (all (bytes "section")) x) (seen-own W s more)
 
-  abbrev readings : Part
+  abbrev readings : Paragraph
   readings = many (bytes "walls") 0 wallsMost (line "wall" columns) wall-rule
 
   pub walls-ruled : Same (RuledAt s readings) (Readings s)

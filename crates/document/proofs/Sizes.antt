@@ -13,7 +13,7 @@ use borrow.Author.Tests.{leb-true}
 use Rattle.text.specs.Decimal.{decimal}
 use Rattle.text.proofs.Decimal.{sheet-width}
 use Rattle.document.specs.Schema.{Field, Line, Row, joined, bodyText, lineText, within, inRanges, fits, nine, nines, sound}
-use Rattle.document.specs.Reader.{Filled, Sheet, Rule, Part, one, many, to, Document, soundPart, soundParts, lineSize, partSize, partsSize, Sound, countLine, rowsText, partText, sheetText, textOf, RowsKeep, PartKeeps, PartsKeep, LinesKeep}
+use Rattle.document.specs.Reader.{Filled, Sheet, Rule, Paragraph, one, many, to, Document, soundParagraph, soundParagraphs, lineSize, paragraphSize, paragraphsSize, Sound, countLine, rowsText, paragraphText, sheetText, textOf, RowsKeep, ParagraphKeeps, ParagraphsKeep, LinesKeep}
 use Rattle.document.proofs.Cases.{clash, both}
 use Rattle.document.proofs.Pieces.{within-small}
 use Rattle.document.proofs.Judged.{is-sound, is-fit, line-length}
@@ -58,32 +58,32 @@ count-most key a b rows h =
     let i = both (within (to a b) n) true (is-fit (countLine key a b) (countOf rows) h .inside) .0 in
     leb-true (length rows) b (both (leZ (pos a) n) (leZ n (pos b)) i .1)
 
-part-most : (p : Part) (seen : Sheet) (f : Filled) → soundPart p ≡ true → PartKeeps p seen f → length (partText p (f .rows)) ≤ partSize p
-part-most (one l rule) seen f s h =
+paragraph-most : (p : Paragraph) (seen : Sheet) (f : Filled) → soundParagraph p ≡ true → ParagraphKeeps p seen f → length (paragraphText p (f .rows)) ≤ paragraphSize p
+paragraph-most (one l rule) seen f s h =
     let b : length (rowsText l (f .rows)) ≤ 1 * lineSize l = rw (h .1) at (rows-most l rule seen [] (f .rows) s (h .2)) in
     omega arith
-part-most (many key a b l rule) seen f s h =
+paragraph-most (many key a b l rule) seen f s h =
     let t = both (sound (countLine key a b)) (sound l) s in
     let c = line-most (countLine key a b) (countOf (f .rows)) (t .0) (h .1) in
     let m : length (f .rows) * lineSize l ≤ b * lineSize l = mul-le-mul-right (lineSize l) (count-most key a b (f .rows) (h .1)) in
     omega
     (arith, c, rows-most l rule seen [] (f .rows) (t .1) (h .2), m, length-append (lineText (countLine key a b) (countOf (f .rows))) (rowsText l (f .rows)))
 
-parts-most : (ps : List Part) (seen sheet : Sheet) → soundParts ps ≡ true → PartsKeep ps seen sheet → length (sheetText ps sheet) ≤ partsSize ps
+paragraphs-most : (ps : List Paragraph) (seen sheet : Sheet) → soundParagraphs ps ≡ true → ParagraphsKeep ps seen sheet → length (sheetText ps sheet) ≤ paragraphsSize ps
 unfolding sheetText
-parts-most [] seen [] s h = omega arith
-parts-most [] seen (f ∷ fs) s h = absurd h
-parts-most (p ∷ ps) seen [] s h = absurd h
-parts-most (p ∷ ps) seen (f ∷ fs) s h =
-    let t = both (soundPart p) (soundParts ps) s in
-    omega (arith, part-most p seen f (t .0) (h .0), parts-most ps (seen ++ (f ∷ [])) fs (t .1) (h .1), length-append (partText p (f .rows)) (sheetText ps fs))
+paragraphs-most [] seen [] s h = omega arith
+paragraphs-most [] seen (f ∷ fs) s h = absurd h
+paragraphs-most (p ∷ ps) seen [] s h = absurd h
+paragraphs-most (p ∷ ps) seen (f ∷ fs) s h =
+    let t = both (soundParagraph p) (soundParagraphs ps) s in
+    omega (arith, paragraph-most p seen f (t .0) (h .0), paragraphs-most ps (seen ++ (f ∷ [])) fs (t .1) (h .1), length-append (paragraphText p (f .rows)) (sheetText ps fs))
 
 -- THE LAW
 pub never-too-long : (d : Document) → Sound d → (sheet : Sheet) → LinesKeep d sheet → length (textOf d sheet) ≤ 16384
 unfolding textOf
 never-too-long d s [] h = absurd h
 never-too-long d s (f ∷ fs) h =
-    let a = part-most (d .first) [] f (s .first) (h .0) in
-    let b = parts-most (d .below (f ∷ [])) (f ∷ []) fs (s .below (f ∷ [])) (h .1) in
-    let m = leb-true (partSize (d .first) + partsSize (d .below (f ∷ []))) 16384 (s .small (f ∷ [])) in
-    omega (arith, a, b, m, length-append (partText (d .first) (f .rows)) (sheetText (d .below (f ∷ [])) fs))
+    let a = paragraph-most (d .first) [] f (s .first) (h .0) in
+    let b = paragraphs-most (d .below (f ∷ [])) (f ∷ []) fs (s .below (f ∷ [])) (h .1) in
+    let m = leb-true (paragraphSize (d .first) + paragraphsSize (d .below (f ∷ []))) 16384 (s .small (f ∷ [])) in
+    omega (arith, a, b, m, length-append (paragraphText (d .first) (f .rows)) (sheetText (d .below (f ∷ [])) fs))

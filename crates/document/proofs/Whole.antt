@@ -7,9 +7,9 @@ use lib.ListN.{length}
 use lib.Dec.{ltb}
 use borrow.Author.Tests.{le-ltb}
 use Rattle.sheet.specs.declared.Refusal.the-variants.{TooLong}
-use Rattle.document.specs.Reader.{Sheet, Document, Sound, partText, sheetText, textOf, Read, stopped, got, readPart, readParts, readLines, Refused, Good, judgedWhole, readOf, LinesKeep, Keeps}
+use Rattle.document.specs.Reader.{Sheet, Document, Sound, paragraphText, sheetText, textOf, Read, stopped, got, readParagraph, readParagraphs, readLines, Refused, Good, judgedWhole, readOf, LinesKeep, Keeps}
 use Rattle.document.proofs.Cases.{clash, on-none, andThen-got}
-use Rattle.document.proofs.Blocks.{followed, part-text, part-got, parts-text, parts-got}
+use Rattle.document.proofs.Blocks.{followed, paragraph-text, paragraph-got, paragraphs-text, paragraphs-got}
 use Rattle.document.proofs.Sizes.{never-too-long}
 
 -- EVERY SHEET THAT BREAKS NO RULE IS ACCEPTED, and is read as itself
@@ -17,8 +17,8 @@ pub accepted : (d : Document) → Sound d → (sheet : Sheet) → Keeps d sheet 
 unfolding readOf textOf
 accepted d s [] k = absurd (k .lines)
 accepted d s (f ∷ fs) k =
-    let a = part-text (d .first) [] f 1 (sheetText (d .below (f ∷ [])) fs) (s .first) (k .lines .0) in
-    let b = parts-text (d .below (f ∷ [])) (f ∷ []) fs (a .0) [] (s .below (f ∷ [])) (k .lines .1) in
+    let a = paragraph-text (d .first) [] f 1 (sheetText (d .below (f ∷ [])) fs) (s .first) (k .lines .0) in
+    let b = paragraphs-text (d .below (f ∷ [])) (f ∷ []) fs (a .0) [] (s .below (f ∷ [])) (k .lines .1) in
     let c = rw append-nil at (b .1) in
     let short = le-ltb 16384 (length (textOf d (f ∷ fs))) (never-too-long d s (f ∷ fs) (k .lines)) in
     rw (short, a .1, c, k .whole)
@@ -35,12 +35,12 @@ record LinesRead (d : Document) (sheet : Sheet) (text rest : List ℕ) : Type 0 
 lines-got : (d : Document) (sheet : Sheet) (text : List ℕ) (n : ℕ) (rest : List ℕ) → readLines d 1 text ≡ got sheet n rest → LinesRead d sheet text rest
 unfolding textOf
 lines-got d sheet text n rest e =
-    let s = andThen-got (readPart (d .first) [] 1 text) (λ top. readParts (d .below top) top) sheet n rest e in
-    let a = part-got (d .first) [] (s .was) 1 text (s .line) (s .left) (s .first) in
+    let s = andThen-got (readParagraph (d .first) [] 1 text) (λ top. readParagraphs (d .below top) top) sheet n rest e in
+    let a = paragraph-got (d .first) [] (s .was) 1 text (s .line) (s .left) (s .first) in
     let f = a .part in
-    let e′ : readParts (d .below (f ∷ [])) (f ∷ []) (s .line) (s .left) ≡ got sheet n rest = subst (λ (y : Sheet). readParts (d .below y) y (s .line) (s .left) ≡ got sheet n rest) (a .made) (s .then) in
-    let b = parts-got (d .below (f ∷ [])) (f ∷ []) sheet (s .line) (s .left) n rest e′ in
-    rw (b .made) (record { kept = (a .kept, b .kept); whole = followed (partText (d .first) (f .rows)) (sheetText (d .below (f ∷ [])) (b .parts)) rest (a .whole) (b .whole) })
+    let e′ : readParagraphs (d .below (f ∷ [])) (f ∷ []) (s .line) (s .left) ≡ got sheet n rest = subst (λ (y : Sheet). readParagraphs (d .below y) y (s .line) (s .left) ≡ got sheet n rest) (a .made) (s .then) in
+    let b = paragraphs-got (d .below (f ∷ [])) (f ∷ []) sheet (s .line) (s .left) n rest e′ in
+    rw (b .made) (record { kept = (a .kept, b .kept); whole = followed (paragraphText (d .first) (f .rows)) (sheetText (d .below (f ∷ [])) (b .parts)) rest (a .whole) (b .whole) })
 
 pub kept : (d : Document) (text : List ℕ) (sheet : Sheet) → readOf d text ≡ Good sheet → Accepted d text sheet
 unfolding readOf

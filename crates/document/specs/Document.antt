@@ -32,20 +32,20 @@ rowsOf k (f ∷ fs) = cond (sameKey k (f .key)) (f .rows) (rowsOf k fs)
 abbrev pub Rule : Type 0
 Rule = Sheet → Row → Option Refusal
 
--- the parts of a sheet: a line, or a count line with that many lines
-pub data Part : Type 0 where
-  one : Line → Rule → Part
-  many : List ℕ → ℕ → ℕ → Line → Rule → Part
+-- the paragraphs of a sheet: a line, or a count line with that many lines
+pub data Paragraph : Type 0 where
+  one : Line → Rule → Paragraph
+  many : List ℕ → ℕ → ℕ → Line → Rule → Paragraph
 
-abbrev pub lineOf : Part → Line
+abbrev pub lineOf : Paragraph → Line
 lineOf (one l rule) = l
 lineOf (many key a b l rule) = l
 
-abbrev pub ruleOf : Part → Rule
+abbrev pub ruleOf : Paragraph → Rule
 ruleOf (one l rule) = rule
 ruleOf (many key a b l rule) = rule
 
-abbrev pub keyOf : Part → List ℕ
+abbrev pub keyOf : Paragraph → List ℕ
 keyOf p = lineOf p .key
 
 -- from a to b, both whole numbers
@@ -57,50 +57,50 @@ countLine key a b = record { key = key; fields = to a b ∷ [] }
 
 -- A DOCUMENT: the first line, the lines that it chooses, and the rules of the whole sheet
 pub record Document : Type 0 where
-  pub first : Part
-  pub below : Sheet → List Part
+  pub first : Paragraph
+  pub below : Sheet → List Paragraph
   pub whole : Sheet → Option Refusal
 
-abbrev pub soundPart : Part → Bool
-soundPart (one l rule) = sound l
-soundPart (many key a b l rule) = sound (countLine key a b) && sound l
+abbrev pub soundParagraph : Paragraph → Bool
+soundParagraph (one l rule) = sound l
+soundParagraph (many key a b l rule) = sound (countLine key a b) && sound l
 
-abbrev pub soundParts : List Part → Bool
-soundParts [] = true
-soundParts (p ∷ ps) = soundPart p && soundParts ps
+abbrev pub soundParagraphs : List Paragraph → Bool
+soundParagraphs [] = true
+soundParagraphs (p ∷ ps) = soundParagraph p && soundParagraphs ps
 
--- the most bytes that a line, a part and all parts can have: key, =, and at most eleven bytes for each field
+-- the most bytes that a line, a paragraph and all paragraphs can have: key, =, and at most eleven bytes for each field
 abbrev pub lineSize : Line → ℕ
 lineSize l = length (l .key) + 1 + 11 * length (l .fields)
 
-abbrev pub partSize : Part → ℕ
-partSize (one l rule) = lineSize l
-partSize (many key a b l rule) = lineSize (countLine key a b) + b * lineSize l
+abbrev pub paragraphSize : Paragraph → ℕ
+paragraphSize (one l rule) = lineSize l
+paragraphSize (many key a b l rule) = lineSize (countLine key a b) + b * lineSize l
 
-abbrev pub partsSize : List Part → ℕ
-partsSize [] = 0
-partsSize (p ∷ ps) = partSize p + partsSize ps
+abbrev pub paragraphsSize : List Paragraph → ℕ
+paragraphsSize [] = 0
+paragraphsSize (p ∷ ps) = paragraphSize p + paragraphsSize ps
 
 -- what a document must be, so that its texts can be read: every line sound, and no sheet longer than 16,384 bytes
 pub record Sound (d : Document) : Type 0 where
-  pub first : soundPart (d .first) ≡ true
-  pub below : (seen : Sheet) → soundParts (d .below seen) ≡ true
-  pub small : (seen : Sheet) → leb (partSize (d .first) + partsSize (d .below seen)) 16384 ≡ true
+  pub first : soundParagraph (d .first) ≡ true
+  pub below : (seen : Sheet) → soundParagraphs (d .below seen) ≡ true
+  pub small : (seen : Sheet) → leb (paragraphSize (d .first) + paragraphsSize (d .below seen)) 16384 ≡ true
 
 -- THE TEXT OF A SHEET
 unfoldable pub rowsText : Line → List Row → List ℕ
 rowsText l [] = []
 rowsText l (row ∷ rows) = lineText l row ++ rowsText l rows
 
-abbrev pub partText : Part → List Row → List ℕ
-partText (one l rule) rows = rowsText l rows
-partText (many key a b l rule) rows = lineText (countLine key a b) (plain (pos (length rows) ∷ [])) ++ rowsText l rows
+abbrev pub paragraphText : Paragraph → List Row → List ℕ
+paragraphText (one l rule) rows = rowsText l rows
+paragraphText (many key a b l rule) rows = lineText (countLine key a b) (plain (pos (length rows) ∷ [])) ++ rowsText l rows
 
-unfoldable pub sheetText : List Part → Sheet → List ℕ
+unfoldable pub sheetText : List Paragraph → Sheet → List ℕ
 sheetText [] sheet = []
 sheetText (p ∷ ps) [] = []
-sheetText (p ∷ ps) (f ∷ fs) = partText p (f .rows) ++ sheetText ps fs
+sheetText (p ∷ ps) (f ∷ fs) = paragraphText p (f .rows) ++ sheetText ps fs
 
 unfoldable pub textOf : Document → Sheet → List ℕ
 textOf d [] = []
-textOf d (f ∷ fs) = partText (d .first) (f .rows) ++ sheetText (d .below (f ∷ [])) fs
+textOf d (f ∷ fs) = paragraphText (d .first) (f .rows) ++ sheetText (d .below (f ∷ [])) fs

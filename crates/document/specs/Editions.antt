@@ -3,28 +3,28 @@ use mathlib.Core.List.{List, _∷_, _++_, map}
 use mathlib.Core.Option.{none}
 use lib.IntN.{ℤ}
 use Rattle.sheet.specs.Firing.{Firing}
-use Rattle.document.specs.Reader.{Sheet, Part, one, many, Document}
+use Rattle.document.specs.Reader.{Sheet, Paragraph, one, many, Document}
 use Rattle.document.specs.Rows.{editionIn}
 use Rattle.document.specs.Tests.{free, whole-rule}
-use Rattle.document.specs.Entries.{Entry, partsOf, fill}
+use Rattle.document.specs.Entries.{Entry, paragraphsOf, fill}
 use Rattle.document.specs.Document01.{opening, heading, fuelling, drying, staging, loading, surfaces, ending}
 
 -- what stands below the first line, by the edition that it says: there is one so far, document 01's
 unfoldable pub entriesOf : ℤ → List Entry
 entriesOf edition = heading ++ (fuelling ++ (drying ++ (staging ++ (loading ++ (surfaces ++ ending)))))
 
-abbrev pub linesOf : ℤ → List Part
-linesOf edition = partsOf (entriesOf edition)
+abbrev pub linesOf : ℤ → List Paragraph
+linesOf edition = paragraphsOf (entriesOf edition)
 
 abbrev pub document : Document
-document = record { first = opening .part; below = λ seen. linesOf (editionIn seen); whole = whole-rule }
+document = record { first = opening .paragraph; below = λ seen. linesOf (editionIn seen); whole = whole-rule }
 
 -- THE SHEET OF A FIRING
 abbrev pub sheetOf : Firing → Sheet
 sheetOf f = map (fill f) (opening ∷ entriesOf (f .edition))
 
 -- the same lines with form and range only
-abbrev pub unruled : Part → Part
+abbrev pub unruled : Paragraph → Paragraph
 unruled (one l rule) = one l free
 unruled (many key a b l rule) = many key a b l free
 

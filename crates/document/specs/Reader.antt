@@ -10,7 +10,7 @@ use lib.IntN.{pos, natAbs}
 use Rattle.sheet.specs.declared.Refusal.{Refusal}
 use Rattle.sheet.specs.declared.Refusal.the-variants.{TooLong, Surplus}
 use Rattle.document.specs.Schema.{on, Line, Row, plain, fits, Judged, refused, values, judge}
-pub use Rattle.document.specs.Document.{Filled, Sheet, sameKey, rowsOf, Rule, Part, one, many, lineOf, ruleOf, keyOf, to, countLine, Document, soundPart, soundParts, lineSize, partSize, partsSize, Sound, partText}
+pub use Rattle.document.specs.Document.{Filled, Sheet, sameKey, rowsOf, Rule, Paragraph, one, many, lineOf, ruleOf, keyOf, to, countLine, Document, soundParagraph, soundParagraphs, lineSize, paragraphSize, paragraphsSize, Sound, paragraphText}
 unfoldable pub use Rattle.document.specs.Document.{rowsText, sheetText, textOf}
 
 -- READING: what was read, the number of the line that follows, and the text that is left; or a refusal with its line
@@ -50,26 +50,26 @@ readRows (suc k) l rule seen rows = do
   row ← readLine l (rule (seen ++ filled l rows))
   readRows k l rule seen (rows ++ (row ∷ []))
 
-abbrev pub readPart : Part → Sheet → Reader Sheet
-readPart (one l rule) seen = do
+abbrev pub readParagraph : Paragraph → Sheet → Reader Sheet
+readParagraph (one l rule) seen = do
   rows ← readRows 1 l rule seen []
   return (seen ++ filled l rows)
-readPart (many key a b l rule) seen = do
+readParagraph (many key a b l rule) seen = do
   count ← readLine (countLine key a b) (λ row. none)
   rows ← readRows (natAbs (getD (count .numbers) 0 (pos 0))) l rule seen []
   return (seen ++ filled l rows)
 
-unfoldable pub readParts : List Part → Sheet → Reader Sheet
-readParts [] seen = return seen
-readParts (p ∷ ps) seen = do
-  sheet ← readPart p seen
-  readParts ps sheet
+unfoldable pub readParagraphs : List Paragraph → Sheet → Reader Sheet
+readParagraphs [] seen = return seen
+readParagraphs (p ∷ ps) seen = do
+  sheet ← readParagraph p seen
+  readParagraphs ps sheet
 
 -- the first line, then the lines that it chooses
 abbrev pub readLines : Document → Reader Sheet
 readLines d = do
-  top ← readPart (d .first) []
-  readParts (d .below top) top
+  top ← readParagraph (d .first) []
+  readParagraphs (d .below top) top
 
 -- THE ANSWER: 1 first, then the lines from the top, then nothing more, then the whole sheet's rules
 pub data Answer : Type 0 where
@@ -90,23 +90,23 @@ RowsKeep l rule seen above [] = Unit {0}
 RowsKeep l rule seen above (row ∷ rows) =
     (fits l row ≡ true) × (rule (seen ++ filled l above) row ≡ none) × RowsKeep l rule seen (above ++ (row ∷ [])) rows
 
-abbrev pub PartKeeps : Part → Sheet → Filled → Type 0
-PartKeeps (one l rule) seen f = (f .key ≡ l .key) × (length (f .rows) ≡ 1) × RowsKeep l rule seen [] (f .rows)
-PartKeeps (many key a b l rule) seen f = (f .key ≡ l .key) × (fits (countLine key a b) (plain (pos (length (f .rows)) ∷ [])) ≡ true) × RowsKeep l rule seen [] (f .rows)
+abbrev pub ParagraphKeeps : Paragraph → Sheet → Filled → Type 0
+ParagraphKeeps (one l rule) seen f = (f .key ≡ l .key) × (length (f .rows) ≡ 1) × RowsKeep l rule seen [] (f .rows)
+ParagraphKeeps (many key a b l rule) seen f = (f .key ≡ l .key) × (fits (countLine key a b) (plain (pos (length (f .rows)) ∷ [])) ≡ true) × RowsKeep l rule seen [] (f .rows)
 
--- part by part, given what stands above
-abbrev pub Along : (Part → Sheet → Filled → Type 0) → List Part → Sheet → Sheet → Type 0
+-- paragraph by paragraph, given what stands above
+abbrev pub Along : (Paragraph → Sheet → Filled → Type 0) → List Paragraph → Sheet → Sheet → Type 0
 Along Q [] seen [] = Unit {0}
 Along Q [] seen (f ∷ fs) = ⊥
 Along Q (p ∷ ps) seen [] = ⊥
 Along Q (p ∷ ps) seen (f ∷ fs) = Q p seen f × Along Q ps (seen ++ (f ∷ [])) fs
 
-abbrev pub PartsKeep : List Part → Sheet → Sheet → Type 0
-PartsKeep = Along PartKeeps
+abbrev pub ParagraphsKeep : List Paragraph → Sheet → Sheet → Type 0
+ParagraphsKeep = Along ParagraphKeeps
 
 abbrev pub LinesKeep : Document → Sheet → Type 0
 LinesKeep d [] = ⊥
-LinesKeep d (f ∷ fs) = PartKeeps (d .first) [] f × PartsKeep (d .below (f ∷ [])) (f ∷ []) fs
+LinesKeep d (f ∷ fs) = ParagraphKeeps (d .first) [] f × ParagraphsKeep (d .below (f ∷ [])) (f ∷ []) fs
 
 pub record Keeps (d : Document) (sheet : Sheet) : Type 0 where
   pub lines : LinesKeep d sheet

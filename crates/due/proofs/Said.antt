@@ -4,7 +4,7 @@ use mathlib.Core.Path.{_≡_, refl, sym, ap, _∙_, subst}
 use mathlib.Core.Bool.{Bool, true, false, not, _&&_}
 use mathlib.Core.List.{List, [], _∷_, _++_}
 use Rattle.document.specs.Schema.{Line, Row}
-use Rattle.document.specs.Reader.{Sheet, sameKey, rowsOf, Rule, Part, one, readLine, filled, readPart, readParts}
+use Rattle.document.specs.Reader.{Sheet, sameKey, rowsOf, Rule, Paragraph, one, readLine, filled, readParagraph, readParagraphs}
 use Rattle.document.proofs.Cases.{both, clash}
 use Rattle.due.specs.declared.Place.{Place}
 use Rattle.due.specs.Place.{good, Fair, After}
@@ -12,7 +12,7 @@ use Rattle.due.proofs.Places.{after-weaker}
 use Rattle.due.specs.Block.{With}
 use Rattle.due.specs.Block.{lacks}
 use Rattle.due.proofs.Above.{rows-other}
-use Rattle.due.proofs.Sequence.{then-line, then-part, then-parts, parts-done}
+use Rattle.due.proofs.Sequence.{then-line, then-paragraph, then-paragraphs, paragraphs-done}
 use Rattle.due.specs.Said.{Saying, says, saysAll, Said, GroupRead}
 
 -- what two groups say, one behind the other
@@ -22,49 +22,49 @@ said-join (x ∷ xs) ys seen between sheet a b = (a .0, a .1, said-join xs ys (s
 
 module _ {s : List ℕ} where
   pub none-read : {q : Place} → (good q ≡ true → Fair s q) → GroupRead s q [] q []
-  none-read {q} f = record { after = λ seen. parts-done s q seen (Said [] seen) refl f; passes = λ e. refl; fair = f }
+  none-read {q} f = record { after = λ seen. paragraphs-done s q seen (Said [] seen) refl f; passes = λ e. refl; fair = f }
 
-  all-seen : {p q : Place} (ps : List Part) (xs : List Saying) → ((seen : Sheet) → After s p (readParts ps seen) q (Said xs seen)) → GroupRead s p ps q xs
+  all-seen : {p q : Place} (ps : List Paragraph) (xs : List Saying) → ((seen : Sheet) → After s p (readParagraphs ps seen) q (Said xs seen)) → GroupRead s p ps q xs
   all-seen ps xs a = record { after = a; passes = a [] .passes; fair = a [] .fair }
 
-  -- a line, then the parts below it
-  pub line-then : {p q q′ : Place} (l : Line) (rule : Rule) (P : Row → Type 0) {ps : List Part} {xs : List Saying}
+  -- a line, then the paragraphs below it
+  pub line-then : {p q q′ : Place} (l : Line) (rule : Rule) (P : Row → Type 0) {ps : List Paragraph} {xs : List Saying}
       → ((seen : Sheet) → After s p (readLine l (rule (seen ++ filled l []))) q P) → GroupRead s q ps q′ xs → GroupRead s p (one l rule ∷ ps) q′ (says l P ∷ xs)
   line-then {p} {q} {q′} l rule P {ps} {xs} a k = all-seen (one l rule ∷ ps) (says l P ∷ xs) (λ seen.
       (let Q = Said (says l P ∷ xs) seen in
       then-line s l rule ps seen Q p q q′ P (a seen)
-      (λ row h. (let t = seen ++ filled l (row ∷ []) in after-weaker s q q′ (readParts ps t) (Said xs t) Q (λ sheet m. (row ∷ [], h, m)) (k .after t)))
+      (λ row h. (let t = seen ++ filled l (row ∷ []) in after-weaker s q q′ (readParagraphs ps t) (Said xs t) Q (λ sheet m. (row ∷ [], h, m)) (k .after t)))
       (k .passes) (k .fair)))
 
-  -- a part whose rows are known, then the parts below it
-  pub part-then : (p q q′ : Place) (part : Part) (l : Line) (P : List Row → Type 0) (ps : List Part) (xs : List Saying) (seen : Sheet)
-      → After s p (readPart part seen) q (With l seen P)
-      → ((rows : List Row) → P rows → After s q (readParts ps (seen ++ filled l rows)) q′ (Said xs (seen ++ filled l rows)))
-      → (good q ≡ false → q′ ≡ q) → (good q′ ≡ true → Fair s q′) → After s p (readParts (part ∷ ps) seen) q′ (Said (saysAll l P ∷ xs) seen)
-  part-then p q q′ part l P ps xs seen a k g f =
+  -- a paragraph whose rows are known, then the paragraphs below it
+  pub paragraph-then : (p q q′ : Place) (part : Paragraph) (l : Line) (P : List Row → Type 0) (ps : List Paragraph) (xs : List Saying) (seen : Sheet)
+      → After s p (readParagraph part seen) q (With l seen P)
+      → ((rows : List Row) → P rows → After s q (readParagraphs ps (seen ++ filled l rows)) q′ (Said xs (seen ++ filled l rows)))
+      → (good q ≡ false → q′ ≡ q) → (good q′ ≡ true → Fair s q′) → After s p (readParagraphs (part ∷ ps) seen) q′ (Said (saysAll l P ∷ xs) seen)
+  paragraph-then p q q′ part l P ps xs seen a k g f =
       let Q = Said (saysAll l P ∷ xs) seen in
-      then-part s part l ps seen Q p q q′ P a
-      (λ rows h. let t = seen ++ filled l rows in after-weaker s q q′ (readParts ps t) (Said xs t) Q (λ sheet m. (rows, h, m)) (k rows h)) g f
+      then-paragraph s part l ps seen Q p q q′ P a
+      (λ rows h. let t = seen ++ filled l rows in after-weaker s q q′ (readParagraphs ps t) (Said xs t) Q (λ sheet m. (rows, h, m)) (k rows h)) g f
 
   -- a block by itself
-  pub block-read : {p q : Place} (part : Part) (l : Line) (P : List Row → Type 0)
-      → ((seen : Sheet) → After s p (readPart part seen) q (With l seen P)) → GroupRead s p (part ∷ []) q (saysAll l P ∷ [])
+  pub block-read : {p q : Place} (part : Paragraph) (l : Line) (P : List Row → Type 0)
+      → ((seen : Sheet) → After s p (readParagraph part seen) q (With l seen P)) → GroupRead s p (part ∷ []) q (saysAll l P ∷ [])
   block-read {p} {q} part l P a = all-seen (part ∷ []) (saysAll l P ∷ []) (λ seen.
-      part-then p q q part l P [] [] seen (a seen)
-      (λ rows h. (let t = seen ++ filled l rows in parts-done s q t (Said [] t) refl (a seen .fair))) (λ e. refl) (a seen .fair))
+      paragraph-then p q q part l P [] [] seen (a seen)
+      (λ rows h. (let t = seen ++ filled l rows in paragraphs-done s q t (Said [] t) refl (a seen .fair))) (λ e. refl) (a seen .fair))
 
   -- a group, then those below it, which may ask for what it said
-  pub group-then : {p q q′ : Place} (ps qs : List Part) (xs ys : List Saying) (seen : Sheet) → After s p (readParts ps seen) q (Said xs seen)
-      → ((sheet : Sheet) → Said xs seen sheet → After s q (readParts qs sheet) q′ (Said ys sheet)) → (good q ≡ false → q′ ≡ q) → (good q′ ≡ true → Fair s q′)
-      → After s p (readParts (ps ++ qs) seen) q′ (Said (xs ++ ys) seen)
+  pub group-then : {p q q′ : Place} (ps qs : List Paragraph) (xs ys : List Saying) (seen : Sheet) → After s p (readParagraphs ps seen) q (Said xs seen)
+      → ((sheet : Sheet) → Said xs seen sheet → After s q (readParagraphs qs sheet) q′ (Said ys sheet)) → (good q ≡ false → q′ ≡ q) → (good q′ ≡ true → Fair s q′)
+      → After s p (readParagraphs (ps ++ qs) seen) q′ (Said (xs ++ ys) seen)
   group-then {p} {q} {q′} ps qs xs ys seen a k g f =
       let Q = Said (xs ++ ys) seen in
-      then-parts s ps qs seen p q q′ (Said xs seen) Q a
-      (λ sheet h. after-weaker s q q′ (readParts qs sheet) (Said ys sheet) Q (λ t m. said-join xs ys seen sheet t h m) (k sheet h)) g f
+      then-paragraphs s ps qs seen p q q′ (Said xs seen) Q a
+      (λ sheet h. after-weaker s q q′ (readParagraphs qs sheet) (Said ys sheet) Q (λ t m. said-join xs ys seen sheet t h m) (k sheet h)) g f
 
   -- two groups, of which the second asks for nothing
   infixr 5 _then_
-  pub _then_ : {p q q′ : Place} {ps qs : List Part} {xs ys : List Saying} → GroupRead s p ps q xs → GroupRead s q qs q′ ys
+  pub _then_ : {p q q′ : Place} {ps qs : List Paragraph} {xs ys : List Saying} → GroupRead s p ps q xs → GroupRead s q qs q′ ys
       → GroupRead s p (ps ++ qs) q′ (xs ++ ys)
   _then_ {ps = ps} {qs = qs} {xs = xs} {ys = ys} a k = all-seen (ps ++ qs) (xs ++ ys) (λ seen.
       group-then ps qs xs ys seen (a .after seen) (λ sheet h. k .after sheet) (k .passes) (k .fair))

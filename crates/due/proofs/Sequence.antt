@@ -1,4 +1,4 @@
--- From lines to blocks, from blocks to parts, from parts to the sheet, and from the sheet to the answer. Assumes nothing.
+-- From lines to blocks, from blocks to paragraphs, from paragraphs to the sheet, and from the sheet to the answer. Assumes nothing.
 use Prim.Native.Nat.{ℕ, zero, suc}
 use mathlib.Core.Path.{_≡_, refl, sym, ap, _∙_, subst}
 use mathlib.Core.Bool.{true, false}
@@ -7,7 +7,7 @@ use mathlib.Core.Option.{none}
 use lib.ListN.{getD, drop}
 use lib.IntN.{pos, natAbs}
 use Rattle.document.specs.Schema.{Line, Row}
-use Rattle.document.specs.Reader.{Sheet, Rule, Part, one, many, countLine, Read, stopped, got, Reader, andThen, return, readLine, filled, readRows, readPart, readParts}
+use Rattle.document.specs.Reader.{Sheet, Rule, Paragraph, one, many, countLine, Read, stopped, got, Reader, andThen, return, readLine, filled, readRows, readParagraph, readParagraphs}
 use Rattle.due.specs.declared.Place.{Place}
 use Rattle.due.specs.Place.{good, Fair, After}
 use Rattle.due.specs.Block.{With}
@@ -54,9 +54,9 @@ module _ (s : List ℕ) (l : Line) (rule : Rule) (seen : Sheet) where
         after-bind s q q′ q′ (readRows k l rule seen []) (λ rows. return (seen ++ filled l rows)) P (With l seen P) b
         (λ rows h. after-return s q′ (seen ++ filled l rows) (With l seen P) (rows, refl, h) (b .fair)) (λ h. refl) (b .fair)
 
-    -- a count line that gives k, then k rows, is a part
+    -- a count line that gives k, then k rows, is a paragraph
     many-after : (key : List ℕ) (a b k : ℕ) → After s p (readLine (countLine key a b) (λ row. none)) q (λ row. k ≡ natAbs (getD (row .numbers) 0 (pos 0)))
-        → After s q (readRows k l rule seen []) q′ P → After s p (readPart (many key a b l rule) seen) q′ (With l seen P)
+        → After s q (readRows k l rule seen []) q′ P → After s p (readParagraph (many key a b l rule) seen) q′ (With l seen P)
     many-after key a b k x y =
         after-bind s p q q′ (readLine (countLine key a b) (λ row. none))
         (λ count n t. andThen (readRows (natAbs (getD (count .numbers) 0 (pos 0))) l rule seen [] n t) (λ rows. return (seen ++ filled l rows)))
@@ -64,9 +64,9 @@ module _ (s : List ℕ) (l : Line) (rule : Rule) (seen : Sheet) where
         (λ count e. filled-after (natAbs (getD (count .numbers) 0 (pos 0))) (subst (λ (i : ℕ). After s q (readRows i l rule seen []) q′ P) e y))
         (y .passes) (y .fair)
 
-  -- one line is a part
+  -- one line is a paragraph
   pub one-after : (p q : Place) (P : Row → Type 0) → After s p (readLine l (rule (seen ++ filled l []))) q P
-      → After s p (readPart (one l rule) seen) q (With l seen (λ rows. (row : Row) × (rows ≡ row ∷ []) × P row))
+      → After s p (readParagraph (one l rule) seen) q (With l seen (λ rows. (row : Row) × (rows ≡ row ∷ []) × P row))
   unfolding readRows
   one-after p q P a =
       let Q : List Row → Type 0 = λ rows. (row : Row) × (rows ≡ row ∷ []) × P row in
@@ -81,50 +81,50 @@ count-after {s} {p} {q} {key} {a} {b} {count} h =
     after-weaker s p q (readLine (countLine key a b) (λ row. none)) (λ row. pos count ≡ getD (row .numbers) 0 (pos 0))
     (λ row. count ≡ natAbs (getD (row .numbers) 0 (pos 0))) (λ row e. ap natAbs e) (h .after)
 
--- a count line, then so many rows, is a part
+-- a count line, then so many rows, is a paragraph
 pub block-after : {s : List ℕ} {p q q′ : Place} {count most : ℕ} {P : List Row → Type 0} (key : List ℕ) (a b : ℕ) (l : Line) (rule : Rule) (seen : Sheet)
     → CountAfter s p (countLine key a b) q count most → After s q (readRows count l rule seen []) q′ P
-    → After s p (readPart (many key a b l rule) seen) q′ (With l seen P)
+    → After s p (readParagraph (many key a b l rule) seen) q′ (With l seen P)
 block-after {s} {p} {q} {q′} {count} {P = P} key a b l rule seen x = many-after s l rule seen p q q′ P key a b count (count-after x)
 
 -- a refused place passes through two readings
 pub pass-on : {p q r : Place} → (good p ≡ false → q ≡ p) → (good q ≡ false → r ≡ q) → good p ≡ false → r ≡ p
 pass-on f g e = let h = f e in g (ap (λ (x : Place). good x) h ∙ e) ∙ h
 
-module _ (s : List ℕ) (l : Line) (rule : Rule) (ps : List Part) (seen : Sheet) (Q : Sheet → Type 0) where
-  -- a line, then the parts below it
+module _ (s : List ℕ) (l : Line) (rule : Rule) (ps : List Paragraph) (seen : Sheet) (Q : Sheet → Type 0) where
+  -- a line, then the paragraphs below it
   pub then-line : (p q q′ : Place) (P : Row → Type 0) → After s p (readLine l (rule (seen ++ filled l []))) q P
-      → ((row : Row) → P row → After s q (readParts ps (seen ++ filled l (row ∷ []))) q′ Q) → (good q ≡ false → q′ ≡ q) → (good q′ ≡ true → Fair s q′)
-      → After s p (readParts (one l rule ∷ ps) seen) q′ Q
-  unfolding readParts
+      → ((row : Row) → P row → After s q (readParagraphs ps (seen ++ filled l (row ∷ []))) q′ Q) → (good q ≡ false → q′ ≡ q) → (good q′ ≡ true → Fair s q′)
+      → After s p (readParagraphs (one l rule ∷ ps) seen) q′ Q
+  unfolding readParagraphs
   then-line p q q′ P a k g f =
       let W = With l seen (λ rows. (row : Row) × (rows ≡ row ∷ []) × P row) in
-      after-bind s p q q′ (readPart (one l rule) seen) (readParts ps) W Q (one-after s l rule seen p q P a)
+      after-bind s p q q′ (readParagraph (one l rule) seen) (readParagraphs ps) W Q (one-after s l rule seen p q P a)
       (λ sheet w. let r = w .2 in
-      subst (λ (x : Sheet). After s q (readParts ps x) q′ Q) (sym (w .1 ∙ ap (λ (y : List Row). seen ++ filled l y) (r .1))) (k (r .0) (r .2))) g f
+      subst (λ (x : Sheet). After s q (readParagraphs ps x) q′ Q) (sym (w .1 ∙ ap (λ (y : List Row). seen ++ filled l y) (r .1))) (k (r .0) (r .2))) g f
 
--- a part whose rows are known, then the parts below it
-pub then-part : (s : List ℕ) (part : Part) (l : Line) (ps : List Part) (seen : Sheet) (Q : Sheet → Type 0) (p q q′ : Place) (P : List Row → Type 0)
-    → After s p (readPart part seen) q (With l seen P) → ((rows : List Row) → P rows → After s q (readParts ps (seen ++ filled l rows)) q′ Q)
-    → (good q ≡ false → q′ ≡ q) → (good q′ ≡ true → Fair s q′) → After s p (readParts (part ∷ ps) seen) q′ Q
-unfolding readParts
-then-part s part l ps seen Q p q q′ P a k g f =
-    after-bind s p q q′ (readPart part seen) (readParts ps) (With l seen P) Q a
-    (λ sheet w. subst (λ (z : Sheet). After s q (readParts ps z) q′ Q) (sym (w .1)) (k (w .0) (w .2))) g f
+-- a paragraph whose rows are known, then the paragraphs below it
+pub then-paragraph : (s : List ℕ) (part : Paragraph) (l : Line) (ps : List Paragraph) (seen : Sheet) (Q : Sheet → Type 0) (p q q′ : Place) (P : List Row → Type 0)
+    → After s p (readParagraph part seen) q (With l seen P) → ((rows : List Row) → P rows → After s q (readParagraphs ps (seen ++ filled l rows)) q′ Q)
+    → (good q ≡ false → q′ ≡ q) → (good q′ ≡ true → Fair s q′) → After s p (readParagraphs (part ∷ ps) seen) q′ Q
+unfolding readParagraphs
+then-paragraph s part l ps seen Q p q q′ P a k g f =
+    after-bind s p q q′ (readParagraph part seen) (readParagraphs ps) (With l seen P) Q a
+    (λ sheet w. subst (λ (z : Sheet). After s q (readParagraphs ps z) q′ Q) (sym (w .1)) (k (w .0) (w .2))) g f
 
--- some parts, and then the parts below them
-pub parts-split : (ps qs : List Part) (seen : Sheet) (n : ℕ) (t : List ℕ) → readParts (ps ++ qs) seen n t ≡ andThen (readParts ps seen n t) (readParts qs)
-unfolding readParts
-parts-split [] qs seen n t = refl
-parts-split (p ∷ ps) qs seen n t = regroup (readPart p seen n t) (readParts (ps ++ qs)) (readParts ps) (readParts qs) (parts-split ps qs)
+-- some paragraphs, and then the paragraphs below them
+pub paragraphs-split : (ps qs : List Paragraph) (seen : Sheet) (n : ℕ) (t : List ℕ) → readParagraphs (ps ++ qs) seen n t ≡ andThen (readParagraphs ps seen n t) (readParagraphs qs)
+unfolding readParagraphs
+paragraphs-split [] qs seen n t = refl
+paragraphs-split (p ∷ ps) qs seen n t = regroup (readParagraph p seen n t) (readParagraphs (ps ++ qs)) (readParagraphs ps) (readParagraphs qs) (paragraphs-split ps qs)
 
-pub then-parts : (s : List ℕ) (ps qs : List Part) (seen : Sheet) (p q q′ : Place) (P Q : Sheet → Type 0) → After s p (readParts ps seen) q P
-    → ((sheet : Sheet) → P sheet → After s q (readParts qs sheet) q′ Q) → (good q ≡ false → q′ ≡ q) → (good q′ ≡ true → Fair s q′)
-    → After s p (readParts (ps ++ qs) seen) q′ Q
-then-parts s ps qs seen p q q′ P Q a k g f =
-    let w = after-bind s p q q′ (readParts ps seen) (readParts qs) P Q a k g f in
-    record { reads = λ h. rw (parts-split ps qs seen (p .line) (drop (p .at) s)) (w .reads h); passes = w .passes; fair = w .fair }
+pub then-paragraphs : (s : List ℕ) (ps qs : List Paragraph) (seen : Sheet) (p q q′ : Place) (P Q : Sheet → Type 0) → After s p (readParagraphs ps seen) q P
+    → ((sheet : Sheet) → P sheet → After s q (readParagraphs qs sheet) q′ Q) → (good q ≡ false → q′ ≡ q) → (good q′ ≡ true → Fair s q′)
+    → After s p (readParagraphs (ps ++ qs) seen) q′ Q
+then-paragraphs s ps qs seen p q q′ P Q a k g f =
+    let w = after-bind s p q q′ (readParagraphs ps seen) (readParagraphs qs) P Q a k g f in
+    record { reads = λ h. rw (paragraphs-split ps qs seen (p .line) (drop (p .at) s)) (w .reads h); passes = w .passes; fair = w .fair }
 
-pub parts-done : (s : List ℕ) (q : Place) (seen : Sheet) (Q : Sheet → Type 0) → Q seen → (good q ≡ true → Fair s q) → After s q (readParts [] seen) q Q
-unfolding readParts
-parts-done s q seen Q h f = after-return s q seen Q h f
+pub paragraphs-done : (s : List ℕ) (q : Place) (seen : Sheet) (Q : Sheet → Type 0) → Q seen → (good q ≡ true → Fair s q) → After s q (readParagraphs [] seen) q Q
+unfolding readParagraphs
+paragraphs-done s q seen Q h f = after-return s q seen Q h f

@@ -22,7 +22,7 @@ pub record Filled {A B : Type 0} (view : A → B) (of : Row → B) (blank : A) (
   pub rest : drop k lines ≡ replicate (most - k) blank
   pub size : length lines ≡ most
 
--- a sheet with one part more, whose rows have P
+-- a sheet with one paragraph more, whose rows have P
 abbrev pub With : Line → Sheet → (List Row → Type 0) → Sheet → Type 0
 With l seen P sheet = (rows : List Row) × (sheet ≡ seen ++ filled l rows) × P rows
 

@@ -4,7 +4,7 @@ use mathlib.Core.Path.{_≡_}
 use mathlib.Core.Bool.{true, false}
 use mathlib.Core.List.{List, [], _∷_, _++_}
 use Rattle.document.specs.Schema.{Line, Row}
-use Rattle.document.specs.Reader.{Sheet, Part, filled, readParts}
+use Rattle.document.specs.Reader.{Sheet, Paragraph, filled, readParagraphs}
 use Rattle.document.specs.Rows.{first}
 use Rattle.due.specs.declared.Place.{Place}
 use Rattle.due.specs.Place.{good, Fair, After}
@@ -26,7 +26,7 @@ Said [] seen sheet = sheet ≡ seen
 Said (x ∷ xs) seen sheet = (rows : List Row) × x .Rows rows × Said xs (seen ++ filled (x .line) rows) sheet
 
 -- FROM p THE CODE READS SOME PARTS, whatever stands above them, AND ENDS IN q; how a place is refused or fair needs nothing above it
-pub record GroupRead (s : List ℕ) (p : Place) (ps : List Part) (q : Place) (xs : List Saying) : Type 0 where
-  pub after : (seen : Sheet) → After s p (readParts ps seen) q (Said xs seen)
+pub record GroupRead (s : List ℕ) (p : Place) (ps : List Paragraph) (q : Place) (xs : List Saying) : Type 0 where
+  pub after : (seen : Sheet) → After s p (readParagraphs ps seen) q (Said xs seen)
   pub passes : good p ≡ false → q ≡ p
   pub fair : good q ≡ true → Fair s q

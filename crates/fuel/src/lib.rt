@@ -11,7 +11,7 @@ ghost use Rattle.due.specs.Taking.{from, Taken};
 ghost use Rattle.fuel.specs.Fuel.{fuellingSays};
 ghost use Rattle.document.specs.Reader.{readLine};
 ghost use Rattle.due.specs.Place.{Ready, After};
-ghost use Rattle.document.specs.Entries.{partsOf};
+ghost use Rattle.document.specs.Entries.{paragraphsOf};
 ghost use Rattle.due.specs.Said.{GroupRead};
 use crate::gas::gas_line;
 use due::Place;
@@ -75,7 +75,7 @@ pub struct Fuelling {
 // The lines `fuel` and `gas`.
 pub fn fuelling_lines(s: &[u8], p: Place) -> Fuelling
     requires { ⌜ Ready (now s) p ⌝ }
-    ensures { λ r. ⌜ GroupRead (now (s .entry)) p (partsOf fuelling) (r .place) (fuellingSays r) ⌝ }
+    ensures { λ r. ⌜ GroupRead (now (s .entry)) p (paragraphsOf fuelling) (r .place) (fuellingSays r) ⌝ }
 {
     let l0 = fuel_line(s, p);
     let p0 = l0.place;

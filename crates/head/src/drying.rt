@@ -10,7 +10,7 @@ ghost use Rattle.document.specs.Reader.{readLine};
 ghost use Rattle.document.specs.Rows.{wareOf, waterOf};
 ghost use Rattle.due.specs.Place.{Ready, After};
 ghost use Rattle.due.specs.Taking.{from, Taken};
-ghost use Rattle.document.specs.Entries.{partsOf};
+ghost use Rattle.document.specs.Entries.{paragraphsOf};
 ghost use Rattle.due.specs.Said.{GroupRead};
 ghost use Rattle.head.specs.Head.{dryingSays};
 use due::Place;
@@ -185,7 +185,7 @@ pub struct Drying {
 // The lines `air` to `clay`.
 pub fn drying_lines(s: &[u8], p: Place) -> Drying
     requires { ⌜ Ready (now s) p ⌝ }
-    ensures { λ r. ⌜ GroupRead (now (s .entry)) p (partsOf drying) (r .place) (dryingSays r) ⌝ }
+    ensures { λ r. ⌜ GroupRead (now (s .entry)) p (paragraphsOf drying) (r .place) (dryingSays r) ⌝ }
 {
     let l0 = moisture_line(s, p);
     let p0 = l0.place;

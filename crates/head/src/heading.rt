@@ -5,7 +5,7 @@ ghost use Rattle.document.specs.Schema.{at};
 ghost use Rattle.document.specs.Document01.{firingLine, productLine, ambientLine, heading};
 ghost use Rattle.document.specs.Reader.{readLine};
 ghost use Rattle.due.specs.Place.{Ready, After};
-ghost use Rattle.document.specs.Entries.{partsOf};
+ghost use Rattle.document.specs.Entries.{paragraphsOf};
 ghost use Rattle.due.specs.Said.{GroupRead};
 ghost use Rattle.head.specs.Head.{headingSays};
 use due::Place;
@@ -85,7 +85,7 @@ pub struct Heading {
 // The lines `firing` to `ambient`.
 pub fn heading_lines(s: &[u8], p: Place) -> Heading
     requires { ⌜ Ready (now s) p ⌝ }
-    ensures { λ r. ⌜ GroupRead (now (s .entry)) p (partsOf heading) (r .place) (headingSays r) ⌝ }
+    ensures { λ r. ⌜ GroupRead (now (s .entry)) p (paragraphsOf heading) (r .place) (headingSays r) ⌝ }
 {
     let l0 = firing_line(s, p);
     let p0 = l0.place;

@@ -11,11 +11,11 @@ use Rattle.sheet.specs.declared.Sheet.{Sheet as Sheetˢ}
 use Rattle.sheet.specs.Firing.{Section}
 use Rattle.sheet.specs.Shown.{gas, stage, setter, part, section, laid, unread}
 use Rattle.document.specs.Schema.{Row, plain, at}
-use Rattle.document.specs.Reader.{Sheet, rowsOf, one, filled, readLine, readPart, readParts, readLines}
+use Rattle.document.specs.Reader.{Sheet, rowsOf, one, filled, readLine, readParagraph, readParagraphs, readLines}
 use Rattle.document.specs.Rules.{Every}
 use Rattle.document.specs.Rows.{gasOf, stageOf, setterOf, partOf, sectionOf, wallOf, first, editionIn, stageAs}
 use Rattle.document.specs.Tests.{free}
-use Rattle.document.specs.Entries.{partsOf}
+use Rattle.document.specs.Entries.{paragraphsOf}
 use Rattle.document.specs.Document01.{sheetLine, endLine, heading, fuelling, drying, staging, loading, surfaces, ending}
 use Rattle.document.specs.Editions.{entriesOf, linesOf, document}
 use Rattle.walls.specs.Cells.{Placed}
@@ -141,38 +141,38 @@ module _ (e : EditionLine) (h : Heading) (f : Fuelling) (d : Drying) (a : Stagin
 module _ (s : List ℕ) (start : Place) (e : EditionLine) (h : Heading) (f : Fuelling) (d : Drying) (a : Staging) (b : Loading) (c : Surfaces)
     (z : ClosingLine) (Z : Row → Type 0)
     (he : After s start (readLine sheetLine (λ row. none)) (e .place) (λ row. pos (e .edition .0) ≡ at row 0))
-    (hh : GroupRead s (e .place) (partsOf heading) (h .place) (headingSays h))
-    (hf : GroupRead s (h .place) (partsOf fuelling) (f .place) (fuellingSays f))
-    (hd : GroupRead s (f .place) (partsOf drying) (d .place) (dryingSays d))
+    (hh : GroupRead s (e .place) (paragraphsOf heading) (h .place) (headingSays h))
+    (hf : GroupRead s (h .place) (paragraphsOf fuelling) (f .place) (fuellingSays f))
+    (hd : GroupRead s (f .place) (paragraphsOf drying) (d .place) (dryingSays d))
     (ha : StagesRead s (d .place) a)
-    (hb : GroupRead s (a .place) (partsOf loading) (b .place) (loadingSays b))
+    (hb : GroupRead s (a .place) (paragraphsOf loading) (b .place) (loadingSays b))
     (hc : SurfacesRead s (b .place) (a .stages .count .0) c)
     (hz : After s (c .place) (readLine endLine (λ row. none)) (z .place) Z) where
   abbrev Q : Sheet → Type 0
   Q = Held (sheetFrom e h f d a b c)
 
-  above : GroupRead s (e .place) (partsOf (heading ++ (fuelling ++ (drying ++ (staging ++ loading))))) (b .place) (aboveSays e h f d a b c)
+  above : GroupRead s (e .place) (paragraphsOf (heading ++ (fuelling ++ (drying ++ (staging ++ loading))))) (b .place) (aboveSays e h f d a b c)
   above = hh then hf then hd then ha .after then hb
 
-  last : GroupRead s (c .place) (partsOf ending) (z .place) (says endLine Z ∷ [])
+  last : GroupRead s (c .place) (paragraphsOf ending) (z .place) (says endLine Z ∷ [])
   last = line-then endLine free Z (λ seen. hz) (none-read (hz .fair))
 
   -- ALL LINES
   pub lines-after : After s start (readLines document) (z .place) Q
   unfolding entriesOf
   lines-after =
-      let below-read = partsOf surfaces ++ partsOf ending in
-      after-bind s start (e .place) (z .place) (readPart (one sheetLine free) []) (λ seen. readParts (linesOf (editionIn seen)) seen) _ Q
+      let below-read = paragraphsOf surfaces ++ paragraphsOf ending in
+      after-bind s start (e .place) (z .place) (readParagraph (one sheetLine free) []) (λ seen. readParagraphs (linesOf (editionIn seen)) seen) _ Q
       (one-after s sheetLine free [] start (e .place) (λ row. pos (e .edition .0) ≡ at row 0) he)
       (λ t k.
       (let r = k .2 .0 in
       let top = filled sheetLine (r ∷ []) in
-      subst (λ (x : Sheet). After s (e .place) (readParts (linesOf (editionIn x)) x) (z .place) Q)
+      subst (λ (x : Sheet). After s (e .place) (readParagraphs (linesOf (editionIn x)) x) (z .place) Q)
       (sym (k .1 ∙ ap (λ (y : List Row). filled sheetLine y) (k .2 .1)))
       (after-weaker s (e .place) (z .place) _ (Said (aboveSays e h f d a b c ++ belowSays e h f d a b c Z) top) Q (held e h f d a b c Z r (k .2 .2))
-      (group-then (partsOf (heading ++ (fuelling ++ (drying ++ (staging ++ loading))))) below-read (aboveSays e h f d a b c) (belowSays e h f d a b c Z) top
+      (group-then (paragraphsOf (heading ++ (fuelling ++ (drying ++ (staging ++ loading))))) below-read (aboveSays e h f d a b c) (belowSays e h f d a b c Z) top
       (above .after top)
-      (λ sheet m. group-then (partsOf surfaces) (partsOf ending) (surfacesSay c) (says endLine Z ∷ []) sheet (hc .after sheet (below e h f d a b c r sheet m))
+      (λ sheet m. group-then (paragraphsOf surfaces) (paragraphsOf ending) (surfacesSay c) (says endLine Z ∷ []) sheet (hc .after sheet (below e h f d a b c r sheet m))
       (λ u n. last .after u) (last .passes) (last .fair))
       (pass-on (hc .passes) (last .passes)) (last .fair)))))
       (pass-on (above .passes) (pass-on (hc .passes) (last .passes))) (last .fair)

@@ -13,7 +13,7 @@ use Rattle.sheet.specs.Firing.{Section}
 use Rattle.document.specs.Tests.{isListed, sectionFault, section-rule}
 use Rattle.text.specs.Bytes.{bytes}
 use Rattle.document.specs.Schema.{Row}
-use Rattle.document.specs.Reader.{Sheet, readLine, readRows, readPart}
+use Rattle.document.specs.Reader.{Sheet, readLine, readRows, readParagraph}
 use Rattle.document.specs.Document01.{sectionLine, sections}
 use Rattle.document.specs.Rows.{sectionOf}
 use Rattle.due.specs.declared.Place.{Place}
@@ -62,5 +62,5 @@ SectionRows x = SectionsShown (x .count .0) (x .lines)
 
 pub record SectionsRead (s : List ℕ) (p : Place) (r : SectionBlock) : Type 0 where
   pub after : (seen : Sheet) → lacks (bytes "section") seen ≡ true
-      → After s p (readPart (sections .part) seen) (r .place) (With sectionLine seen (SectionRows (r .sections)))
+      → After s p (readParagraph (sections .paragraph) seen) (r .place) (With sectionLine seen (SectionRows (r .sections)))
   pub within : r .sections .count .0 ≤ 12

@@ -13,7 +13,7 @@ returns : tie.Need-returns
 returns c =
     let b = c .before .before .before in
     let a = b .before .before in
-    block-read (setters .part) setterLine _ (a .setter-block .ensures) then block-read (parts .part) partLine _ (b .part-block .ensures)
+    block-read (setters .paragraph) setterLine _ (a .setter-block .ensures) then block-read (parts .paragraph) partLine _ (b .part-block .ensures)
 
 pub loading-lines-spec : {M : Type 1} → statement M
 loading-lines-spec = tie.close (tie.spec (λ c κs. search needs) part-block-requires returns)

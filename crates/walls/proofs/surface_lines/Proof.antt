@@ -9,10 +9,10 @@ use Rattle.document.specs.Rows.{sectionOf}
 use Rattle.document.specs.Document01.{sectionLine, wallLine, sections, walls}
 use Rattle.walls.specs.Walls.{WallsShown}
 use Rattle.due.proofs.Above.{rows-here}
-use Rattle.due.proofs.Sequence.{pass-on, parts-done}
+use Rattle.due.proofs.Sequence.{pass-on, paragraphs-done}
 use Rattle.due.specs.Said.{saysAll, Said}
 use Rattle.sections.specs.Sections.{sectionsOf, SectionRows}
-use Rattle.due.proofs.Said.{part-then, lacks-more}
+use Rattle.due.proofs.Said.{paragraph-then, lacks-more}
 use Rattle.walls.proofs.Asked.{stages-stay, walls-pass}
 use Rattle.walls.proofs.surface_lines.Statement.{statement}
 use Rattle.walls.proofs.surface_lines.Tie as tie
@@ -36,16 +36,16 @@ returns c =
     let last = walls-pass (a .s .now) q S (a .stages) (w .result) (w .ensures) in
     record {
       after = λ seen b.
-          part-then (a .p) q q′ (sections .part) sectionLine (SectionRows (d .result .sections)) (walls .part ∷ []) (saysAll wallLine Walls ∷ []) seen
+          paragraph-then (a .p) q q′ (sections .paragraph) sectionLine (SectionRows (d .result .sections)) (walls .paragraph ∷ []) (saysAll wallLine Walls ∷ []) seen
           (d .ensures .after seen (b .sections))
           (λ rows h.
           (let t = seen ++ filled sectionLine rows in
-          part-then q q′ q′ (walls .part) wallLine Walls [] [] t
+          paragraph-then q q′ q′ (walls .paragraph) wallLine Walls [] [] t
           (w .ensures t
           (lacks-more (bytes "wall") sectionLine rows seen refl (b .walls))
           (ap (λ (l : List Row). map sectionOf l) (rows-here sectionLine rows seen (b .sections)) ∙ sym (h .filled .shown))
           (stages-stay rows seen (a .stages) (b .stages)))
-          (λ more k. (let u = t ++ filled wallLine more in parts-done (a .s .now) q′ u (Said [] u) refl (last .fair)))
+          (λ more k. (let u = t ++ filled wallLine more in paragraphs-done (a .s .now) q′ u (Said [] u) refl (last .fair)))
           (λ e. refl) (last .fair)))
           (last .passes) (last .fair);
       passes = pass-on (d .ensures .after [] refl .passes) (last .passes);

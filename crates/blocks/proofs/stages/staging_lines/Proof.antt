@@ -21,7 +21,7 @@ returns c =
     let l = rows .stage-rows .ensures in
     let n = counted .stage-count .ensures in
     record {
-      after = block-read (stages .part) stageLine _ (λ seen. block-after (bytes "stages") 1 12 stageLine free seen n (l seen));
+      after = block-read (stages .paragraph) stageLine _ (λ seen. block-after (bytes "stages") 1 12 stageLine free seen n (l seen));
       within = n .within;
     }
 
