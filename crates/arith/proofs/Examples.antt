@@ -18,11 +18,15 @@ use Rattle.arith.proofs.NearestLaws.{nearest-error, nearest-only, neare
 use Rattle.arith.proofs.RootLaws.{root-is}
 
 -- ---- identities
-expand : (a b c d e f : ℤ) → (a +ℤ b) *ℤ (c +ℤ d) *ℤ (e +ℤ f) ≡ a *ℤ c *ℤ e +ℤ a *ℤ c *ℤ f +ℤ a *ℤ d *ℤ e +ℤ a *ℤ d *ℤ f +ℤ b *ℤ c *ℤ e +ℤ b *ℤ c *ℤ f +ℤ b *ℤ d *ℤ e +ℤ b *ℤ d *ℤ f
-expand a b c d e f = ring (a ∷ b ∷ c ∷ d ∷ e ∷ f ∷ []) ((v 0 ⊕ v 1) ⊗ (v 2 ⊕ v 3) ⊗ (v 4 ⊕ v 5)) (v 0 ⊗ v 2 ⊗ v 4 ⊕ v 0 ⊗ v 2 ⊗ v 5 ⊕ v 0 ⊗ v 3 ⊗ v 4 ⊕ v 0 ⊗ v 3 ⊗ v 5 ⊕ v 1 ⊗ v 2 ⊗ v 4 ⊕ v 1 ⊗ v 2 ⊗ v 5 ⊕ v 1 ⊗ v 3 ⊗ v 4 ⊕ v 1 ⊗ v 3 ⊗ v 5) tt
+expand : (a b c d e f : ℤ) → (a +ℤ b) *ℤ (c +ℤ d) *ℤ (e +ℤ f)
+    ≡ a *ℤ c *ℤ e +ℤ a *ℤ c *ℤ f +ℤ a *ℤ d *ℤ e +ℤ a *ℤ d *ℤ f +ℤ b *ℤ c *ℤ e +ℤ b *ℤ c *ℤ f +ℤ b *ℤ d *ℤ e +ℤ b *ℤ d *ℤ f
+expand a b c d e f = ring (a ∷ b ∷ c ∷ d ∷ e ∷ f ∷ []) ((v 0 ⊕ v 1) ⊗ (v 2 ⊕ v 3) ⊗ (v 4 ⊕ v 5))
+    (v 0 ⊗ v 2 ⊗ v 4 ⊕ v 0 ⊗ v 2 ⊗ v 5 ⊕ v 0 ⊗ v 3 ⊗ v 4 ⊕ v 0 ⊗ v 3 ⊗ v 5 ⊕ v 1 ⊗ v 2 ⊗ v 4 ⊕ v 1 ⊗ v 2 ⊗ v 5 ⊕ v 1 ⊗ v 3 ⊗ v 4 ⊕ v 1 ⊗ v 3 ⊗ v 5) tt
 
-numerals : (a b c : ℤ) → (pos 1293000000 *ℤ a -ℤ pos 5600000001 *ℤ b) *ℤ (pos 1293000000 *ℤ a +ℤ pos 5600000001 *ℤ b) *ℤ (c *ℤ c -ℤ pos 9999999999) ≡ pos 1671849000000000000 *ℤ a *ℤ a *ℤ c *ℤ c -ℤ pos 31360000011200000001 *ℤ b *ℤ b *ℤ c *ℤ c -ℤ pos 16718489998328151000000000000 *ℤ a *ℤ a +ℤ pos 313600000080639999998799999999 *ℤ b *ℤ b
-numerals a b c = ring (a ∷ b ∷ c ∷ []) ((# 1293000000 ⊗ v 0 ⊖ # 5600000001 ⊗ v 1) ⊗ (# 1293000000 ⊗ v 0 ⊕ # 5600000001 ⊗ v 1) ⊗ (v 2 ⊗ v 2 ⊖ # 9999999999)) (# 1671849000000000000 ⊗ v 0 ⊗ v 0 ⊗ v 2 ⊗ v 2 ⊖ # 31360000011200000001 ⊗ v 1 ⊗ v 1 ⊗ v 2 ⊗ v 2 ⊖ # 16718489998328151000000000000 ⊗ v 0 ⊗ v 0 ⊕ # 313600000080639999998799999999 ⊗ v 1 ⊗ v 1) tt
+numerals : (a b c : ℤ) → (pos 1293000000 *ℤ a -ℤ pos 5600000001 *ℤ b) *ℤ (pos 1293000000 *ℤ a +ℤ pos 5600000001 *ℤ b) *ℤ (c *ℤ c -ℤ pos 9999999999)
+    ≡ pos 1671849000000000000 *ℤ a *ℤ a *ℤ c *ℤ c -ℤ pos 31360000011200000001 *ℤ b *ℤ b *ℤ c *ℤ c -ℤ pos 16718489998328151000000000000 *ℤ a *ℤ a +ℤ pos 313600000080639999998799999999 *ℤ b *ℤ b
+numerals a b c = ring (a ∷ b ∷ c ∷ []) ((# 1293000000 ⊗ v 0 ⊖ # 5600000001 ⊗ v 1) ⊗ (# 1293000000 ⊗ v 0 ⊕ # 5600000001 ⊗ v 1) ⊗ (v 2 ⊗ v 2 ⊖ # 9999999999))
+    (# 1671849000000000000 ⊗ v 0 ⊗ v 0 ⊗ v 2 ⊗ v 2 ⊖ # 31360000011200000001 ⊗ v 1 ⊗ v 1 ⊗ v 2 ⊗ v 2 ⊖ # 16718489998328151000000000000 ⊗ v 0 ⊗ v 0 ⊕ # 313600000080639999998799999999 ⊗ v 1 ⊗ v 1) tt
 
 -- over ℕ, with more monomials than `omega` multiplies out
 cubes : (a b c d e : ℕ) → (a + b + c + d + e) * (a + b + c + d + e) * (a + b + c + d + e) ≡ (a + b + c + d + e) * ((e + d + c + b + a) * (a + b + c + d + e))
@@ -48,7 +52,8 @@ whole-numbers a b = below (a ∷ b ∷ []) 2 (leq 1 (# 3 ⊗ v 0) (# 3 ⊗ v 1 �
 
 -- a product of two hypotheses: (b − a)·(d − c) ≥ 0
 rearranged : (a b c d : ℤ) → a ≤ℤ b → c ≤ℤ d → (a *ℤ d +ℤ b *ℤ c) ≤ℤ (a *ℤ c +ℤ b *ℤ d)
-rearranged a b c d h k = below (a ∷ b ∷ c ∷ d ∷ []) 0 (prd (leq 1 (v 0) (v 1)) (leq 1 (v 2) (v 3)) ∷ []) (v 0 ⊗ v 3 ⊕ v 1 ⊗ v 2) (v 0 ⊗ v 2 ⊕ v 1 ⊗ v 3) tt (h, k)
+rearranged a b c d h k = below (a ∷ b ∷ c ∷ d ∷ []) 0 (prd (leq 1 (v 0) (v 1)) (leq 1 (v 2) (v 3)) ∷ []) (v 0 ⊗ v 3 ⊕ v 1 ⊗ v 2) (v 0 ⊗ v 2 ⊕ v 1 ⊗ v 3) tt
+    (h, k)
 
 -- a square: 2·a·b ≤ a² + b²
 means : (a b : ℤ) → (pos 2 *ℤ a *ℤ b) ≤ℤ (a *ℤ a +ℤ b *ℤ b)

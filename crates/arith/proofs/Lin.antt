@@ -112,7 +112,8 @@ pub below : (xs : List ℤ) (k : ℕ) (hs : List Hyp) (l r : Ex) → T (nonneg? 
 below xs k hs l r t = curry (at xs) hs (den l (at xs) ≤ℤ den r (at xs)) (λ p. below′ (at xs) k hs l r t p)
 
 -- the same for l < r, which is l + 1 ≤ r
-pub under : (xs : List ℤ) (k : ℕ) (hs : List Hyp) (l r : Ex) → T (nonneg? (norm (slack k (l ⊕ # 1) r ⊖ gains hs))) → Imp (at xs) hs (den l (at xs) <ℤ den r (at xs))
+pub under : (xs : List ℤ) (k : ℕ) (hs : List Hyp) (l r : Ex) → T (nonneg? (norm (slack k (l ⊕ # 1) r ⊖ gains hs)))
+    → Imp (at xs) hs (den l (at xs) <ℤ den r (at xs))
 under xs k hs l r t = curry (at xs) hs (den l (at xs) <ℤ den r (at xs)) (λ p. one-more (den l (at xs)) (den r (at xs)) (below′ (at xs) k hs (l ⊕ # 1) r t p))
 
 -- ---- equations from equations
@@ -146,6 +147,10 @@ sub-null : (l r : ℤ) → r -ℤ l ≡ pos 0 → l ≡ r
 sub-null l r h = omega (arithℤ, parts (l ∷ r ∷ []) (v 1 ⊖ v 0))
 
 -- (k + 1)·(r − l) is the equations' sum: so l ≡ r
-pub equal : (xs : List ℤ) (k : ℕ) (hs : List Hyp) (l r : Ex) → T (eqns? hs && zero? (norm (# (suc k) ⊗ (r ⊖ l) ⊖ gains hs))) → Imp (at xs) hs (den l (at xs) ≡ den r (at xs))
-equal xs k hs l r t = curry (at xs) hs (den l (at xs) ≡ den r (at xs)) (λ p. sub-null (den l (at xs)) (den r (at xs)) (null′ k (den r (at xs) -ℤ den l (at xs)) (den (gains hs) (at xs)) (gains0 (at xs) hs (both-left (eqns? hs) (zero? (norm (# (suc k) ⊗ (r ⊖ l) ⊖ gains hs))) t) p)
-    (sound (# (suc k) ⊗ (r ⊖ l) ⊖ gains hs) (at xs) ∙ is-zero (norm (# (suc k) ⊗ (r ⊖ l) ⊖ gains hs)) (at xs) (both-right (eqns? hs) (zero? (norm (# (suc k) ⊗ (r ⊖ l) ⊖ gains hs))) t))))
+pub equal : (xs : List ℤ) (k : ℕ) (hs : List Hyp) (l r : Ex) → T (eqns? hs && zero? (norm (# (suc k) ⊗ (r ⊖ l) ⊖ gains hs)))
+    → Imp (at xs) hs (den l (at xs) ≡ den r (at xs))
+equal xs k hs l r t = curry (at xs) hs (den l (at xs) ≡ den r (at xs))
+    (λ p. sub-null (den l (at xs)) (den r (at xs)) (null′ k (den r (at xs) -ℤ den l (at xs)) (den (gains hs) (at xs))
+    (gains0 (at xs) hs (both-left (eqns? hs) (zero? (norm (# (suc k) ⊗ (r ⊖ l) ⊖ gains hs))) t) p)
+    (sound (# (suc k) ⊗ (r ⊖ l) ⊖ gains hs) (at xs) ∙ is-zero (norm (# (suc k) ⊗ (r ⊖ l) ⊖ gains hs)) (at xs)
+    (both-right (eqns? hs) (zero? (norm (# (suc k) ⊗ (r ⊖ l) ⊖ gains hs))) t))))

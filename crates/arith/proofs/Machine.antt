@@ -33,7 +33,10 @@ all-fits H (negsuc n) h p q = omega (arithℤ, parts (pos H ∷ []) (⊝ (v 0)))
 
 inside-fits : (w : Width) {x : ℤ} {s : Span} → In x s → T (inside w s) → SFits w x
 inside-fits w {x} {s} p t =
-    record { sfits = all-fits (2 ^ hbits w) x (pow-pos (hbits w)) (≤ℤ-trans (leZ-yes (both-left (leZ (all w .0) (s .0)) (leZ (s .1) (all w .1)) t)) (p .low)) (≤ℤ-trans (p .high) (leZ-yes (both-right (leZ (all w .0) (s .0)) (leZ (s .1) (all w .1)) t))) }
+    record {
+      sfits = all-fits (2 ^ hbits w) x (pow-pos (hbits w)) (≤ℤ-trans (leZ-yes (both-left (leZ (all w .0) (s .0)) (leZ (s .1) (all w .1)) t)) (p .low))
+          (≤ℤ-trans (p .high) (leZ-yes (both-right (leZ (all w .0) (s .0)) (leZ (s .1) (all w .1)) t)));
+    }
 
 fits-all : (H : ℕ) (x : ℤ) → mag x < H → In x (negℤ (pos H), pos (H - 1))
 fits-all H (pos n) h = record { low = omega (arithℤ, parts (pos H ∷ []) (⊝ (v 0))); high = omega arithℤ }
@@ -263,18 +266,27 @@ module _ (ks : List Known) where
 
   -- and so is what an operand reads as
   pub bound-read : (w : Width) (e : Mx) {B : ℕ} → T (leb (far (span e ks)) B && safe w e ks) → natAbs (run w e ks) ≤ B
-  bound-read w e {B} t = subst (λ (z : ℤ). natAbs z ≤ B) (sym (result w e (both-right (leb (far (span e ks)) B) (safe w e ks) t))) (bound e (both-left (leb (far (span e ks)) B) (safe w e ks) t))
+  bound-read w e {B} t = subst (λ (z : ℤ). natAbs z ≤ B) (sym (result w e (both-right (leb (far (span e ks)) B) (safe w e ks) t)))
+      (bound e (both-left (leb (far (span e ks)) B) (safe w e ks) t))
 
   -- an operation's result fits: a sum, a difference, a product or a quotient of operands, or a number that is cast
   pub fits : (w : Width) (e : Mx) → T (inside w (span e ks) && safe w e ks) → SFits w (kept w e ks)
-  fits w e t = subst (λ (z : ℤ). SFits w z) (sym (kept-is w e (both-right (inside w (span e ks)) (safe w e ks) t))) (inside-fits w (span-in e) (both-left (inside w (span e ks)) (safe w e ks) t))
+  fits w e t = subst (λ (z : ℤ). SFits w z) (sym (kept-is w e (both-right (inside w (span e ks)) (safe w e ks) t)))
+      (inside-fits w (span-in e) (both-left (inside w (span e ks)) (safe w e ks) t))
 
   -- a division's or a remainder's need: the divisor's bits are not 0, and the quotient fits. The divisor is not 0 by a proof, or by its range
-  pub divides-by : (w : Width) (a b : Mx) → T (inside w (span (a ⟨/⟩ b) ks) && safe w (a ⟨/⟩ b) ks) → T (inside w (span b ks) && safe w b ks) → mean b ks ≢ pos 0 → (0 < ofZ w (kept w b ks)) × SFits w (kept w (a ⟨/⟩ b) ks)
-  divides-by w a b t u n = (subst (λ (z : ℤ). 0 < ofZ w z) (sym (kept-is w b (both-right (inside w (span b ks)) (safe w b ks) u))) (ofZ-above w (mean b ks) (inside-fits w (span-in b) (both-left (inside w (span b ks)) (safe w b ks) u) .sfits) n), fits w (a ⟨/⟩ b) t)
+  pub divides-by : (w : Width) (a b : Mx) → T (inside w (span (a ⟨/⟩ b) ks) && safe w (a ⟨/⟩ b) ks) → T (inside w (span b ks) && safe w b ks)
+      → mean b ks ≢ pos 0 → (0 < ofZ w (kept w b ks)) × SFits w (kept w (a ⟨/⟩ b) ks)
+  divides-by w a b t u n = (
+    subst (λ (z : ℤ). 0 < ofZ w z) (sym (kept-is w b (both-right (inside w (span b ks)) (safe w b ks) u)))
+        (ofZ-above w (mean b ks) (inside-fits w (span-in b) (both-left (inside w (span b ks)) (safe w b ks) u) .sfits) n),
+    fits w (a ⟨/⟩ b) t,
+  )
 
-  pub divides : (w : Width) (a b : Mx) → T (inside w (span (a ⟨/⟩ b) ks) && safe w (a ⟨/⟩ b) ks) → T (nonzero (span b ks) && (inside w (span b ks) && safe w b ks)) → (0 < ofZ w (kept w b ks)) × SFits w (kept w (a ⟨/⟩ b) ks)
-  divides w a b t u = divides-by w a b t (both-right (nonzero (span b ks)) (inside w (span b ks) && safe w b ks) u) (nonzero-is (span-in b) (both-left (nonzero (span b ks)) (inside w (span b ks) && safe w b ks) u))
+  pub divides : (w : Width) (a b : Mx) → T (inside w (span (a ⟨/⟩ b) ks) && safe w (a ⟨/⟩ b) ks)
+      → T (nonzero (span b ks) && (inside w (span b ks) && safe w b ks)) → (0 < ofZ w (kept w b ks)) × SFits w (kept w (a ⟨/⟩ b) ks)
+  divides w a b t u = divides-by w a b t (both-right (nonzero (span b ks)) (inside w (span b ks) && safe w b ks) u)
+      (nonzero-is (span-in b) (both-left (nonzero (span b ks)) (inside w (span b ks) && safe w b ks) u))
 
   -- what a branch on a comparison of two operands tells of the numbers that are meant
   module _ (w : Width) (a b : Mx) (t : T (safe w a ks && safe w b ks)) where
@@ -295,7 +307,8 @@ module _ (ks : List Known) where
 
     -- a test `==` or `!=` compares the bits
     pub eq-yes : T (bits? a && bits? b) → ofZ w (kept w a ks) ≡ ofZ w (kept w b ks) → mean a ks ≡ mean b ks
-    eq-yes u e = sym (back-is w a (both-left (bits? a) (bits? b) u) (both-left (safe w a ks) (safe w b ks) t)) ∙ ap (toZ w) e ∙ back-is w b (both-right (bits? a) (bits? b) u) (both-right (safe w a ks) (safe w b ks) t)
+    eq-yes u e = sym (back-is w a (both-left (bits? a) (bits? b) u) (both-left (safe w a ks) (safe w b ks) t)) ∙ ap (toZ w) e
+        ∙ back-is w b (both-right (bits? a) (bits? b) u) (both-right (safe w a ks) (safe w b ks) t)
 
     pub eq-no : (ofZ w (kept w a ks) ≡ ofZ w (kept w b ks) → ⊥) → mean a ks ≢ mean b ks
     eq-no f e = f (ap (ofZ w) (kept-is w a (both-left (safe w a ks) (safe w b ks) t) ∙ e ∙ sym (kept-is w b (both-right (safe w a ks) (safe w b ks) t))))

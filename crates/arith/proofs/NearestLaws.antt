@@ -130,7 +130,8 @@ nearest-error (pos n) {d} h =
     abs-within (pos n -ℤ pos (d * N)) n (d * N) 2 d (omega (arith, parts (pos n ∷ pos (d * N) ∷ []) (v 0 ⊖ v 1))) (halfℕ n h .high) (halfℕ n h .low)
 nearest-error (negsuc n) {d} h =
     let N = nearestℕ (suc n) d in
-    abs-within (negsuc n -ℤ pos d *ℤ negℤ (pos N)) (d * N) (suc n) 2 d (omega (arith, parts (negsuc n ∷ pos d ∷ pos N ∷ []) (v 0 ⊖ v 1 ⊗ ⊝ (v 2)))) (halfℕ (suc n) h .low) (halfℕ (suc n) h .high)
+    abs-within (negsuc n -ℤ pos d *ℤ negℤ (pos N)) (d * N) (suc n) 2 d (omega (arith, parts (negsuc n ∷ pos d ∷ pos N ∷ []) (v 0 ⊖ v 1 ⊗ ⊝ (v 2))))
+    (halfℕ (suc n) h .low) (halfℕ (suc n) h .high)
 
 -- two integers are equal, or at least one apart
 apart : (q r : ℤ) → (q ≡ r) ⊎ (1 ≤ natAbs (r -ℤ q))

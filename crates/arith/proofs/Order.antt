@@ -117,10 +117,12 @@ nonneg-square (negsuc m) = omega arithℤ
 
 -- the product with a number that is not negative keeps the order
 pub *ℤ-monoˡ : {a b c : ℤ} → pos 0 ≤ℤ c → a ≤ℤ b → (c *ℤ a) ≤ℤ (c *ℤ b)
-*ℤ-monoˡ {a} {b} {c} h k = le-of-sub (subst (λ (z : ℤ). pos 0 ≤ℤ z) (ring (a ∷ b ∷ c ∷ []) (v 2 ⊗ (v 1 ⊖ v 0)) (v 2 ⊗ v 1 ⊖ v 2 ⊗ v 0) tt) (nonneg-mul h (sub-nonneg k)))
+*ℤ-monoˡ {a} {b} {c} h k = le-of-sub (subst (λ (z : ℤ). pos 0 ≤ℤ z) (ring (a ∷ b ∷ c ∷ []) (v 2 ⊗ (v 1 ⊖ v 0)) (v 2 ⊗ v 1 ⊖ v 2 ⊗ v 0) tt)
+    (nonneg-mul h (sub-nonneg k)))
 
 pub *ℤ-monoʳ : {a b c : ℤ} → pos 0 ≤ℤ c → a ≤ℤ b → (a *ℤ c) ≤ℤ (b *ℤ c)
-*ℤ-monoʳ {a} {b} {c} h k = le-of-sub (subst (λ (z : ℤ). pos 0 ≤ℤ z) (ring (a ∷ b ∷ c ∷ []) (v 2 ⊗ (v 1 ⊖ v 0)) (v 1 ⊗ v 2 ⊖ v 0 ⊗ v 2) tt) (nonneg-mul h (sub-nonneg k)))
+*ℤ-monoʳ {a} {b} {c} h k = le-of-sub (subst (λ (z : ℤ). pos 0 ≤ℤ z) (ring (a ∷ b ∷ c ∷ []) (v 2 ⊗ (v 1 ⊖ v 0)) (v 1 ⊗ v 2 ⊖ v 0 ⊗ v 2) tt)
+    (nonneg-mul h (sub-nonneg k)))
 
 cancel′ : (c z : ℤ) → pos 0 <ℤ c → pos 0 ≤ℤ (c *ℤ z) → pos 0 ≤ℤ z
 cancel′ c (pos n) h k = omega arithℤ
@@ -130,7 +132,8 @@ cancel′ (negsuc m) (negsuc n) h k = omega arithℤ
 
 -- and with a positive number it can be cancelled
 pub *ℤ-cancel-≤ : {a b c : ℤ} → pos 0 <ℤ c → (c *ℤ a) ≤ℤ (c *ℤ b) → a ≤ℤ b
-*ℤ-cancel-≤ {a} {b} {c} h k = le-of-sub (cancel′ c (b -ℤ a) h (subst (λ (z : ℤ). pos 0 ≤ℤ z) (ring (a ∷ b ∷ c ∷ []) (v 2 ⊗ v 1 ⊖ v 2 ⊗ v 0) (v 2 ⊗ (v 1 ⊖ v 0)) tt) (sub-nonneg k)))
+*ℤ-cancel-≤ {a} {b} {c} h k = le-of-sub (cancel′ c (b -ℤ a) h
+    (subst (λ (z : ℤ). pos 0 ≤ℤ z) (ring (a ∷ b ∷ c ∷ []) (v 2 ⊗ v 1 ⊖ v 2 ⊗ v 0) (v 2 ⊗ (v 1 ⊖ v 0)) tt) (sub-nonneg k)))
 
 -- ---- absolute values
 pub abs-is : (x : ℤ) → natAbs x ≡ up x + dn x

@@ -99,16 +99,19 @@ zero? (hor c q) = zero? c && zero? q
 
 -- ---- they mean the same
 law-hor : (a c x q : ℤ) → a *ℤ c +ℤ x *ℤ (a *ℤ q) ≡ a *ℤ (c +ℤ x *ℤ q)
-law-hor a c x q = rep-eq (r-add (r-mul (self a) (self c)) (r-mul (self x) (r-mul (self a) (self q)))) (r-mul (self a) (r-add (self c) (r-mul (self x) (self q)))) (omega arith)
+law-hor a c x q = rep-eq (r-add (r-mul (self a) (self c)) (r-mul (self x) (r-mul (self a) (self q))))
+    (r-mul (self a) (r-add (self c) (r-mul (self x) (self q)))) (omega arith)
 
 law-swap : (b c w : ℤ) → (b +ℤ c) +ℤ w ≡ (c +ℤ w) +ℤ b
 law-swap b c w = rep-eq (r-add (r-add (self b) (self c)) (self w)) (r-add (r-add (self c) (self w)) (self b)) (omega arith)
 
 law-add : (c d x q r : ℤ) → (c +ℤ d) +ℤ x *ℤ (q +ℤ r) ≡ (c +ℤ x *ℤ q) +ℤ (d +ℤ x *ℤ r)
-law-add c d x q r = rep-eq (r-add (r-add (self c) (self d)) (r-mul (self x) (r-add (self q) (self r)))) (r-add (r-add (self c) (r-mul (self x) (self q))) (r-add (self d) (r-mul (self x) (self r)))) (omega arith)
+law-add c d x q r = rep-eq (r-add (r-add (self c) (self d)) (r-mul (self x) (r-add (self q) (self r))))
+    (r-add (r-add (self c) (r-mul (self x) (self q))) (r-add (self d) (r-mul (self x) (self r)))) (omega arith)
 
 law-mul : (c p x q : ℤ) → c *ℤ p +ℤ (pos 0 +ℤ x *ℤ (q *ℤ p)) ≡ (c +ℤ x *ℤ q) *ℤ p
-law-mul c p x q = rep-eq (r-add (r-mul (self c) (self p)) (r-add (r-pos 0) (r-mul (self x) (r-mul (self q) (self p))))) (r-mul (r-add (self c) (r-mul (self x) (self q))) (self p)) (omega arith)
+law-mul c p x q = rep-eq (r-add (r-mul (self c) (self p)) (r-add (r-pos 0) (r-mul (self x) (r-mul (self q) (self p)))))
+    (r-mul (r-add (self c) (r-mul (self x) (self q))) (self p)) (omega arith)
 
 pub law-zero : (c x : ℤ) → c +ℤ x *ℤ pos 0 ≡ c
 law-zero c x = rep-eq (r-add (self c) (r-mul (self x) (r-pos 0))) (self c) (omega arith)
@@ -136,7 +139,8 @@ ev-add : (p q : P) (ρ : ℕ → ℤ) → ev (add p q) ρ ≡ ev p ρ +ℤ ev q 
 unfolding ev
 ev-add (con a) q ρ = ev-addC a q ρ
 ev-add (hor c q) (con b) ρ = ap (λ (z : ℤ). z +ℤ ρ 0 *ℤ ev q ρ) (ev-addC b c (shift ρ)) ∙ law-swap b (ev c (shift ρ)) (ρ 0 *ℤ ev q ρ)
-ev-add (hor c q) (hor d r) ρ = ap₂ (λ (y z : ℤ). y +ℤ ρ 0 *ℤ z) (ev-add c d (shift ρ)) (ev-add q r ρ) ∙ law-add (ev c (shift ρ)) (ev d (shift ρ)) (ρ 0) (ev q ρ) (ev r ρ)
+ev-add (hor c q) (hor d r) ρ = ap₂ (λ (y z : ℤ). y +ℤ ρ 0 *ℤ z) (ev-add c d (shift ρ)) (ev-add q r ρ)
+    ∙ law-add (ev c (shift ρ)) (ev d (shift ρ)) (ρ 0) (ev q ρ) (ev r ρ)
 
 ev-scl : (a : ℤ) (p : P) (ρ : ℕ → ℤ) → ev (scl a p) ρ ≡ a *ℤ ev p ρ
 unfolding ev
@@ -170,7 +174,8 @@ unfolding ev
 sound (v i) ρ = ev-var i ρ
 sound (lit k) ρ = refl
 sound (a ⊕ b) ρ = ap₂ _+ℤ_ (sound a ρ) (sound b ρ) ∙ sym (ev-add (norm a) (norm b) ρ)
-sound (a ⊖ b) ρ = ap₂ (λ (x y : ℤ). x +ℤ negℤ y) (sound a ρ) (sound b ρ) ∙ ap (λ (z : ℤ). ev (norm a) ρ +ℤ z) (sym (ev-neg (norm b) ρ)) ∙ sym (ev-add (norm a) (scl (negsuc 0) (norm b)) ρ)
+sound (a ⊖ b) ρ = ap₂ (λ (x y : ℤ). x +ℤ negℤ y) (sound a ρ) (sound b ρ) ∙ ap (λ (z : ℤ). ev (norm a) ρ +ℤ z) (sym (ev-neg (norm b) ρ))
+    ∙ sym (ev-add (norm a) (scl (negsuc 0) (norm b)) ρ)
 sound (a ⊗ b) ρ = ap₂ _*ℤ_ (sound a ρ) (sound b ρ) ∙ sym (ev-mul (norm a) (norm b) ρ)
 sound (⊝ a) ρ = ap negℤ (sound a ρ) ∙ sym (ev-neg (norm a) ρ)
 
@@ -190,7 +195,8 @@ is-zeroZ (negsuc n) t = absurd t
 pub is-zero : (p : P) (ρ : ℕ → ℤ) → T (zero? p) → ev p ρ ≡ pos 0
 unfolding ev
 is-zero (con c) ρ t = is-zeroZ c t
-is-zero (hor c q) ρ t = ap₂ (λ (y z : ℤ). y +ℤ ρ 0 *ℤ z) (is-zero c (shift ρ) (both-left (zero? c) (zero? q) t)) (is-zero q ρ (both-right (zero? c) (zero? q) t)) ∙ law-zero (pos 0) (ρ 0)
+is-zero (hor c q) ρ t = ap₂ (λ (y z : ℤ). y +ℤ ρ 0 *ℤ z) (is-zero c (shift ρ) (both-left (zero? c) (zero? q) t))
+    (is-zero q ρ (both-right (zero? c) (zero? q) t)) ∙ law-zero (pos 0) (ρ 0)
 
 ring′ : (ρ : ℕ → ℤ) (l r : Ex) → T (zero? (norm (l ⊖ r))) → den l ρ ≡ den r ρ
 ring′ ρ l r t = sym (law-sub (den l ρ) (den r ρ)) ∙ ap (λ (z : ℤ). z +ℤ den r ρ) (sound (l ⊖ r) ρ ∙ is-zero (norm (l ⊖ r)) ρ t) ∙ +ℤ-idl (den r ρ)

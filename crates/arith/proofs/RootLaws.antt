@@ -19,7 +19,8 @@ rootIn-is (suc fuel) (suc m) h =
     r : ℕ
     r = 2 * rootIn fuel (suc m / 4)
 
-    digit : (t : Bool) → (T t → (r + 1) * (r + 1) ≤ suc m) → (T (not t) → suc m < (r + 1) * (r + 1)) → IsRoot (suc m / 4) (rootIn fuel (suc m / 4)) → IsRoot (suc m) (cond t (r + 1) r)
+    digit : (t : Bool) → (T t → (r + 1) * (r + 1) ≤ suc m) → (T (not t) → suc m < (r + 1) * (r + 1)) → IsRoot (suc m / 4) (rootIn fuel (suc m / 4))
+        → IsRoot (suc m) (cond t (r + 1) r)
     digit true f g a = record { below = f tt; above = omega (arith, a .above) }
     digit false f g a = record { below = omega (arith, a .below); above = omega (arith, g tt) }
 

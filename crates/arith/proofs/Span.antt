@@ -126,10 +126,12 @@ mul-in {x} {y} {s} {t} p q = go (≤ℤ-total (pos 0) y)
     B : (lower (b *ℤ t .0) (b *ℤ t .1) ≤ℤ (b *ℤ y)) × ((b *ℤ y) ≤ℤ upper (b *ℤ t .0) (b *ℤ t .1))
     B = side b (q .low) (q .high)
 
-    L : (lower (lower (a *ℤ t .0) (a *ℤ t .1)) (lower (b *ℤ t .0) (b *ℤ t .1)) ≤ℤ lower (a *ℤ t .0) (a *ℤ t .1)) × (lower (lower (a *ℤ t .0) (a *ℤ t .1)) (lower (b *ℤ t .0) (b *ℤ t .1)) ≤ℤ lower (b *ℤ t .0) (b *ℤ t .1))
+    L : (lower (lower (a *ℤ t .0) (a *ℤ t .1)) (lower (b *ℤ t .0) (b *ℤ t .1)) ≤ℤ lower (a *ℤ t .0) (a *ℤ t .1))
+        × (lower (lower (a *ℤ t .0) (a *ℤ t .1)) (lower (b *ℤ t .0) (b *ℤ t .1)) ≤ℤ lower (b *ℤ t .0) (b *ℤ t .1))
     L = lower-both (lower (a *ℤ t .0) (a *ℤ t .1)) (lower (b *ℤ t .0) (b *ℤ t .1))
 
-    U : (upper (a *ℤ t .0) (a *ℤ t .1) ≤ℤ upper (upper (a *ℤ t .0) (a *ℤ t .1)) (upper (b *ℤ t .0) (b *ℤ t .1))) × (upper (b *ℤ t .0) (b *ℤ t .1) ≤ℤ upper (upper (a *ℤ t .0) (a *ℤ t .1)) (upper (b *ℤ t .0) (b *ℤ t .1)))
+    U : (upper (a *ℤ t .0) (a *ℤ t .1) ≤ℤ upper (upper (a *ℤ t .0) (a *ℤ t .1)) (upper (b *ℤ t .0) (b *ℤ t .1)))
+        × (upper (b *ℤ t .0) (b *ℤ t .1) ≤ℤ upper (upper (a *ℤ t .0) (a *ℤ t .1)) (upper (b *ℤ t .0) (b *ℤ t .1)))
     U = upper-both (upper (a *ℤ t .0) (a *ℤ t .1)) (upper (b *ℤ t .0) (b *ℤ t .1))
 
     go : (pos 0 ≤ℤ y) ⊎ (y ≤ℤ pos 0) → In (x *ℤ y) (mul-span s t)
@@ -150,7 +152,8 @@ quot-mono : (x y : ℤ) (k : ℕ) → x ≤ℤ y → quotZ x (pos (suc k)) ≤�
 quot-mono (pos m) (pos n) k h = le↓ (omega (arith, div-mono {a = m} {b = n} k (omega arithℤ)))
 quot-mono (pos m) (negsuc n) k h = absurd (h .le)
 quot-mono (negsuc m) (pos n) k h = omega (arithℤ, parts (pos (suc m / suc k) ∷ []) (⊝ (v 0)))
-quot-mono (negsuc m) (negsuc n) k h = negℤ-anti {a = pos (suc n / suc k)} {b = pos (suc m / suc k)} (le↓ (omega (arith, div-mono {a = suc n} {b = suc m} k (omega arithℤ))))
+quot-mono (negsuc m) (negsuc n) k h = negℤ-anti {a = pos (suc n / suc k)} {b = pos (suc m / suc k)}
+    (le↓ (omega (arith, div-mono {a = suc n} {b = suc m} k (omega arithℤ))))
 
 shr-div : {a b : ℕ} (m : ℕ) → a ≤ b → a / m ≤ b / m
 shr-div {a} {b} zero h = omega (arith, div-zero a)
@@ -181,7 +184,8 @@ quot-in {x} {y} {s} {t} p q = go (only t) (λ k e. only-is k e q)
   where
     go : (k : ℕ) → ((j : ℕ) → k ≡ suc j → y ≡ pos (suc j)) → In (quotZ x y) (quot-by k s)
     go zero f = around-in (bound-quot x y (far-is x p))
-    go (suc k) f = subst (λ (z : ℤ). In (quotZ x z) (quot-by (suc k) s)) (sym (f k refl)) (record { low = quot-mono (s .0) x k (p .low); high = quot-mono x (s .1) k (p .high) })
+    go (suc k) f = subst (λ (z : ℤ). In (quotZ x z) (quot-by (suc k) s)) (sym (f k refl))
+        (record { low = quot-mono (s .0) x k (p .low); high = quot-mono x (s .1) k (p .high) })
 
 pub nonzero-is : {x : ℤ} {s : Span} → In x s → T (nonzero s) → x ≢ pos 0
 nonzero-is {x} {s} p t e = go (leZ (pos 1) (s .0)) (leZ (s .1) (negsuc 0)) (λ u. leZ-yes u) (λ u. leZ-yes u) t

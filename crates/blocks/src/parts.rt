@@ -116,7 +116,8 @@ pub struct PartRows {
 pub fn part_rows(s: &[u8], start: Place, k: usize) -> PartRows
     requires { ⌜ k ≤ 32 ⌝ }
     requires { ⌜ Ready (now s) start ⌝ }
-    ensures { λ r. ⌜ ((seen : Sheet) → After (now (s .entry)) start (readRows k partLine (material-rule 1) seen []) (r .place) (Filled part partOf blankPart 32 k (r .lines))) ⌝ }
+    ensures { λ r. ⌜ ((seen : Sheet) → After (now (s .entry)) start (readRows k partLine (material-rule 1) seen []) (r .place)
+        (Filled part partOf blankPart 32 k (r .lines))) ⌝ }
 {
     let none = sheet::blank::part();
     let mut lines = [none; 32];

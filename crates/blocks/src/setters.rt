@@ -108,7 +108,8 @@ pub struct SetterRows {
 pub fn setter_rows(s: &[u8], start: Place, k: usize) -> SetterRows
     requires { ⌜ k ≤ 32 ⌝ }
     requires { ⌜ Ready (now s) start ⌝ }
-    ensures { λ r. ⌜ ((seen : Sheet) → After (now (s .entry)) start (readRows k setterLine (material-rule 2) seen []) (r .place) (Filled setter setterOf blankSetter 32 k (r .lines))) ⌝ }
+    ensures { λ r. ⌜ ((seen : Sheet) → After (now (s .entry)) start (readRows k setterLine (material-rule 2) seen []) (r .place)
+        (Filled setter setterOf blankSetter 32 k (r .lines))) ⌝ }
 {
     let none = sheet::blank::setter();
     let mut lines = [none; 32];

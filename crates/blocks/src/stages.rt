@@ -112,7 +112,8 @@ pub struct StageRows {
 pub fn stage_rows(s: &[u8], start: Place, k: usize) -> StageRows
     requires { ⌜ k ≤ 12 ⌝ }
     requires { ⌜ Ready (now s) start ⌝ }
-    ensures { λ r. ⌜ ((seen : Sheet) → After (now (s .entry)) start (readRows k stageLine free seen []) (r .place) (Filled stage stageOf blankStage 12 k (r .lines))) ⌝ }
+    ensures { λ r. ⌜ ((seen : Sheet) → After (now (s .entry)) start (readRows k stageLine free seen []) (r .place)
+        (Filled stage stageOf blankStage 12 k (r .lines))) ⌝ }
 {
     let none = sheet::blank::stage();
     let mut lines = [none; 12];

@@ -168,7 +168,8 @@ module _ (f : Firing) (h : Limits f) (choice : Choice) where
       (summed (λ w. sectionOf f w .area *ℤ stageOf f w .minutes)
       (λ w c. nonneg-mul (area-least (w .section) (f .sections) (h .sections)) (minutes-least (natAbs (w .stage) - 1) (f .stages) (h .stages)))
       (f .walls) (h .walls) (h .wallsMost) (λ w c.
-      rounded (lit< tt) (per-both (sectionOf f w .area) (stageOf f w .minutes) (stand-off (choice w) _ ⊠ pos (10 ^ 9) ⊞ rounded (lit< tt) same) ⊠ pos 60 ⊠ pos (joule / 10 ^ 16))))
+      rounded (lit< tt) (per-both (sectionOf f w .area) (stageOf f w .minutes) (stand-off (choice w) _ ⊠ pos (10 ^ 9) ⊞ rounded (lit< tt) same) ⊠ pos 60 ⊠ pos
+      (joule / 10 ^ 16))))
 
   -- ---- Sides
   Bounded : List Item → Type 0

@@ -66,7 +66,8 @@ per {x = x} {y} m p = record { off = omega (arith, apart-product x y m (p .off) 
 
 pub per-both : {a : ℕ} {x y : ℤ} (m n : ℤ) → Off (natAbs (m *ℤ n)) a 0 x y → Off (natAbs (m *ℤ n)) 0 a (x *ℤ m *ℤ n) (y *ℤ m *ℤ n)
 per-both {a} {x} {y} m n p = record {
-  off = subst (λ (i : ℤ). natAbs i ≤ 0 + a * natAbs (m *ℤ n)) (ring (x ∷ y ∷ m ∷ n ∷ []) (v 0 ⊗ (v 2 ⊗ v 3) ⊖ v 1 ⊗ (v 2 ⊗ v 3)) (v 0 ⊗ v 2 ⊗ v 3 ⊖ v 1 ⊗ v 2 ⊗ v 3) tt) (per (m *ℤ n) p .off);
+  off = subst (λ (i : ℤ). natAbs i ≤ 0 + a * natAbs (m *ℤ n))
+      (ring (x ∷ y ∷ m ∷ n ∷ []) (v 0 ⊗ (v 2 ⊗ v 3) ⊖ v 1 ⊗ (v 2 ⊗ v 3)) (v 0 ⊗ v 2 ⊗ v 3 ⊖ v 1 ⊗ v 2 ⊗ v 3) tt) (per (m *ℤ n) p .off);
 }
 
 -- ---- rounded to a multiple of k, on one side only
@@ -74,7 +75,8 @@ pub rounded : {w a b k : ℕ} {x y : ℤ} → 0 < k → Off w a b x y → Off w 
 rounded {w} {a} {b} {k} {x} {y} h p =
     let error = bound-sub (x -ℤ y) (x -ℤ pos k *ℤ nearest x k) {B = k / 2} (p .off) (omega (arith, nearest-error x h)) in
     record {
-      off = subst (λ (i : ℤ). natAbs i ≤ a + k / 2 + b * w) (ring (x ∷ y ∷ pos k ∷ nearest x k ∷ []) (v 0 ⊖ v 1 ⊖ (v 0 ⊖ v 2 ⊗ v 3)) (v 3 ⊗ v 2 ⊖ v 1) tt) (omega (arith, error));
+      off = subst (λ (i : ℤ). natAbs i ≤ a + k / 2 + b * w) (ring (x ∷ y ∷ pos k ∷ nearest x k ∷ []) (v 0 ⊖ v 1 ⊖ (v 0 ⊖ v 2 ⊗ v 3)) (v 3 ⊗ v 2 ⊖ v 1) tt)
+          (omega (arith, error));
     }
 
 -- ---- a weight that is at most so much, and one that does not matter
@@ -96,16 +98,19 @@ module _ {A : Type 0} {C : A → Type 0} (w : A → ℤ) (least : (a : A) → C 
   weight [] c = ≤ℤ-refl (pos 0)
   weight (x ∷ l) c = +ℤ-mono {a = pos 0} {b = w x} {c = pos 0} {d = sum w l} (least x (c .0)) (weight l (c .1))
 
-  each : {f g : A → ℤ} {a b : ℕ} → ((x : A) → C x → Off (natAbs (w x)) a b (f x) (g x)) → (l : List A) → Every C l → Off (natAbs (sum w l)) (a * length l) b (sum f l) (sum g l)
+  each : {f g : A → ℤ} {a b : ℕ} → ((x : A) → C x → Off (natAbs (w x)) a b (f x) (g x)) → (l : List A) → Every C l
+      → Off (natAbs (sum w l)) (a * length l) b (sum f l) (sum g l)
   unfolding sum
   each h [] c = record { off = omega arith }
   each {f} {g} {a} {b} h (x ∷ l) c =
       let size = ap (λ (n : ℕ). b * n) (both-sizes (least x (c .0)) (weight l (c .1))) in
       record { off = omega (arith, size, apart-sum (f x) (g x) (sum f l) (sum g l) (h x (c .0) .off) (each h l (c .1) .off)) }
 
-  pub summed : {f g : A → ℤ} {a b n : ℕ} (l : List A) → Every C l → length l ≤ n → ((x : A) → C x → Off (natAbs (w x)) a b (f x) (g x)) → Off (natAbs (sum w l)) (a * n) b (sum f l) (sum g l)
+  pub summed : {f g : A → ℤ} {a b n : ℕ} (l : List A) → Every C l → length l ≤ n → ((x : A) → C x → Off (natAbs (w x)) a b (f x) (g x))
+      → Off (natAbs (sum w l)) (a * n) b (sum f l) (sum g l)
   summed {a = a} l c k h = record { off = omega (arith, each h l c .off, mul-le-mul-left a k) }
 
 -- the same with no weight
-pub records : {A : Type 0} {C : A → Type 0} {f g : A → ℤ} {w a n : ℕ} (l : List A) → Every C l → length l ≤ n → ((x : A) → C x → Off w a 0 (f x) (g x)) → Off w (a * n) 0 (sum f l) (sum g l)
+pub records : {A : Type 0} {C : A → Type 0} {f g : A → ℤ} {w a n : ℕ} (l : List A) → Every C l → length l ≤ n → ((x : A) → C x → Off w a 0 (f x) (g x))
+    → Off w (a * n) 0 (sum f l) (sum g l)
 records l c k h = freed (summed (λ x. pos 0) (λ x d. ≤ℤ-refl (pos 0)) l c k (λ x d. freed (h x d)))

@@ -103,7 +103,8 @@ paragraph-join : (p : Paragraph) (seen : Sheet) (f : Filled) → ParagraphKeeps 
 paragraph-join (one l rule) seen f k m = (k .0, k .1, rows-join l rule seen [] (f .rows) (k .2) (m .each))
 paragraph-join (many key a b l rule) seen f k m = (k .0, k .1, rows-join l rule seen [] (f .rows) (k .2) (m .each))
 
-pub paragraphs-split : (ps : List Paragraph) (seen sheet : Sheet) → ParagraphsKeep ps seen sheet → ParagraphsKeep (map unruled ps) seen sheet × Ruled ps seen sheet
+pub paragraphs-split : (ps : List Paragraph) (seen sheet : Sheet) → ParagraphsKeep ps seen sheet
+    → ParagraphsKeep (map unruled ps) seen sheet × Ruled ps seen sheet
 paragraphs-split [] seen [] k = (tt, tt)
 paragraphs-split [] seen (f ∷ fs) k = absurd k
 paragraphs-split (p ∷ ps) seen [] k = absurd k
@@ -112,7 +113,8 @@ paragraphs-split (p ∷ ps) seen (f ∷ fs) k =
     let b = paragraphs-split ps (seen ++ (f ∷ [])) fs (k .1) in
     ((a .0, b .0), (a .1, b .1))
 
-pub paragraphs-join : (ps : List Paragraph) (seen sheet : Sheet) → ParagraphsKeep (map unruled ps) seen sheet → Ruled ps seen sheet → ParagraphsKeep ps seen sheet
+pub paragraphs-join : (ps : List Paragraph) (seen sheet : Sheet) → ParagraphsKeep (map unruled ps) seen sheet → Ruled ps seen sheet
+    → ParagraphsKeep ps seen sheet
 paragraphs-join [] seen [] k m = tt
 paragraphs-join [] seen (f ∷ fs) k m = absurd m
 paragraphs-join (p ∷ ps) seen [] k m = absurd m

@@ -107,8 +107,11 @@ paragraph-text (one l rule) seen f n rest s h =
 paragraph-text (many key a b l rule) seen f n rest s h =
     let t = both (sound (countLine key a b)) (sound l) s in
     let c = line-text (countLine key a b) (λ row. none) (countOf (f .rows)) n (rowsText l (f .rows) ++ rest) (t .0) (h .1) refl in
-    let d = rows-text l rule seen (t .1) (f .rows) [] (suc n) rest (h .2) in
-    (suc n + length (f .rows), rw (append-assoc (lineText (countLine key a b) (countOf (f .rows))) (rowsText l (f .rows)) rest, c, d) (ap (λ (x : Sheet). got x (suc n + length (f .rows)) rest) (keyed l seen f (h .0))))
+    let d = rows-text l rule seen (t .1) (f .rows) [] (suc n) rest (h .2) in (
+      suc n + length (f .rows),
+      rw (append-assoc (lineText (countLine key a b) (countOf (f .rows))) (rowsText l (f .rows)) rest, c, d)
+          (ap (λ (x : Sheet). got x (suc n + length (f .rows)) rest) (keyed l seen f (h .0))),
+    )
 
 pub record PartRead (p : Paragraph) (seen sheet : Sheet) (text rest : List ℕ) : Type 0 where
   pub part : Filled
@@ -140,7 +143,8 @@ paragraph-got (one l rule) seen sheet n text m rest e =
     }
 paragraph-got (many key a b l rule) seen sheet n text m rest e =
     let k : Row → ℕ = λ count. natAbs (getD (count .numbers) 0 (pos 0)) in
-    let s = andThen-got (readLine (countLine key a b) (λ row. none) n text) (λ count. readRows (k count) l rule seen [] >>= (λ rows. return (seen ++ filled l rows))) sheet m rest e in
+    let s = andThen-got (readLine (countLine key a b) (λ row. none) n text)
+    (λ count. readRows (k count) l rule seen [] >>= (λ rows. return (seen ++ filled l rows))) sheet m rest e in
     let c = line-got (countLine key a b) (λ row. none) (s .was) n text (s .line) (s .left) (s .first) in
     let u = block-got l rule seen (k (s .was)) sheet (s .line) (s .left) m rest (s .then) in
     let d = u .2 in
@@ -149,7 +153,8 @@ paragraph-got (many key a b l rule) seen sheet n text m rest e =
       part = record { key = l .key; rows = d .rows };
       made = u .1 ∙ ap (λ (y : List Row). seen ++ filled l y) (d .made);
       kept = (refl, rw counted at (c .inRange), d .kept);
-      whole = followed (lineText (countLine key a b) (countOf (d .rows))) (rowsText l (d .rows)) rest (c .whole ∙ ap (λ (y : Row). lineText (countLine key a b) y ++ s .left) counted) (d .whole);
+      whole = followed (lineText (countLine key a b) (countOf (d .rows))) (rowsText l (d .rows)) rest
+          (c .whole ∙ ap (λ (y : Row). lineText (countLine key a b) y ++ s .left) counted) (d .whole);
     }
 
 -- ALL PARTS
@@ -171,7 +176,8 @@ pub record PartsRead (ps : List Paragraph) (seen all : Sheet) (text rest : List 
   pub kept : ParagraphsKeep ps seen parts
   pub whole : text ≡ sheetText ps parts ++ rest
 
-pub paragraphs-got : (ps : List Paragraph) (seen sheet : Sheet) (n : ℕ) (text : List ℕ) (m : ℕ) (rest : List ℕ) → readParagraphs ps seen n text ≡ got sheet m rest
+pub paragraphs-got : (ps : List Paragraph) (seen sheet : Sheet) (n : ℕ) (text : List ℕ) (m : ℕ) (rest : List ℕ)
+    → readParagraphs ps seen n text ≡ got sheet m rest
     → PartsRead ps seen sheet text rest
 unfolding readParagraphs sheetText
 paragraphs-got [] seen sheet n text m rest e = record { parts = []; made = sym (append-nil seen ∙ cc); kept = tt; whole = cc }

@@ -30,7 +30,8 @@ use Rattle.document.proofs.Ruled.{RuledAt, alone, unasked, sections-rul
 
 -- ONE ENTRY: what the firing of a sheet says there is what the sheet says
 pub record Lawful (edition : ℤ) (e : Entry) : Type 0 where
-  pub back : (s : Sheet) → editionIn s ≡ edition → ParagraphForm (e .paragraph) (rowsOf (keyOf (e .paragraph)) s) → e .says (firingOf s) ≡ rowsOf (keyOf (e .paragraph)) s
+  pub back : (s : Sheet) → editionIn s ≡ edition → ParagraphForm (e .paragraph) (rowsOf (keyOf (e .paragraph)) s)
+      → e .says (firingOf s) ≡ rowsOf (keyOf (e .paragraph)) s
 
 abbrev pub FormedAt : Sheet → Entry → Type 0
 FormedAt s e = ParagraphForm (e .paragraph) (rowsOf (keyOf (e .paragraph)) s)

@@ -137,7 +137,8 @@ form-of ps sheet n k =
     let f = forms ps [] sheet k in
     record { keyed = f .0; each = by-key (λ p seen. ParagraphForm p) ps [] sheet n (f .0) .to (f .1) }
   where
-    forms : (qs : List Paragraph) (seen s : Sheet) → ParagraphsKeep (map unruled qs) seen s → Keyed qs s × Along (λ p above f. ParagraphForm p (f .rows)) qs seen s
+    forms : (qs : List Paragraph) (seen s : Sheet) → ParagraphsKeep (map unruled qs) seen s
+        → Keyed qs s × Along (λ p above f. ParagraphForm p (f .rows)) qs seen s
     forms [] seen [] k = (tt, tt)
     forms [] seen (f ∷ fs) k = absurd k
     forms (q ∷ qs) seen [] k = absurd k

@@ -41,7 +41,8 @@ pub is-fit : (l : Line) (row : Row) → fits l row ≡ true → Fits l row
 unfolding fits
 is-fit l row h =
     let b = both (inRanges (l .fields) (row .numbers)) (eqb (length (row .name)) 0) h in
-    record { inside = b .0; unnamed = ap (λ (x : List ℕ). record { numbers = row .numbers; name = x }) (nameless (row .name) (eqb-true (length (row .name)) 0 (b .1))) }
+    let empty = nameless (row .name) (eqb-true (length (row .name)) 0 (b .1)) in
+    record { inside = b .0; unnamed = ap (λ (x : List ℕ). record { numbers = row .numbers; name = x }) empty }
 
 pub fits-plain : (l : Line) (zs : List ℤ) → inRanges (l .fields) zs ≡ true → fits l (plain zs) ≡ true
 unfolding fits
@@ -59,11 +60,13 @@ pieces-row n (z ∷ zs) e h = pieces-joined (decimal z) (map decimal zs) (decima
 -- the key with its `=`, and what stands behind it
 body-begins : (l : Line) (row : Row) → begins (l .key ++ (61 ∷ [])) (bodyText l row) ≡ true
 unfolding bodyText
-body-begins l row = rw (← append-snoc (l .key) 61 (joined (map decimal (row .numbers)))) (key-begins (l .key ++ (61 ∷ [])) (joined (map decimal (row .numbers))))
+body-begins l row = rw (← append-snoc (l .key) 61 (joined (map decimal (row .numbers))))
+    (key-begins (l .key ++ (61 ∷ [])) (joined (map decimal (row .numbers))))
 
 body-behind : (l : Line) (row : Row) → drop (length (l .key ++ (61 ∷ []))) (bodyText l row) ≡ joined (map decimal (row .numbers))
 unfolding bodyText
-body-behind l row = rw (← append-snoc (l .key) 61 (joined (map decimal (row .numbers)))) (drop-append-seam (l .key ++ (61 ∷ [])) (joined (map decimal (row .numbers))))
+body-behind l row = rw (← append-snoc (l .key) 61 (joined (map decimal (row .numbers))))
+    (drop-append-seam (l .key ++ (61 ∷ [])) (joined (map decimal (row .numbers))))
 
 pub line-length : (l : Line) (row : Row) → length (lineText l row) ≡ suc (length (bodyText l row))
 unfolding lineText

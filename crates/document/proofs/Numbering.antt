@@ -65,7 +65,8 @@ paragraph-reached (many key a b l rule) seen n text most h =
     then-reached (readRows k l rule seen [] m rest) (λ rows m′ rest′. got (seen ++ filled l rows) m′ rest′) most
     (rows-reached k l rule seen [] m rest most g) (λ rows m′ rest′ g′. g′))
 
-paragraphs-reached : (ps : List Paragraph) (seen : Sheet) (n : ℕ) (text : List ℕ) (most : ℕ) → n + length text ≤ most → Reached most (readParagraphs ps seen n text)
+paragraphs-reached : (ps : List Paragraph) (seen : Sheet) (n : ℕ) (text : List ℕ) (most : ℕ) → n + length text ≤ most
+    → Reached most (readParagraphs ps seen n text)
 unfolding readParagraphs
 paragraphs-reached [] seen n text most h = h
 paragraphs-reached (p ∷ ps) seen n text most h =

@@ -100,7 +100,8 @@ module _ (c : ℕ) (h : c < 45) where
   digit-clear d = rw (ne-eqb (48 + d) c (λ e. omega arith))
 
   digits-clear : (n : ℕ) → count (digits n) c ≡ 0
-  digits-clear = by-digits (λ n. count (digits n) c ≡ 0) (λ n l. rw (digits-one n l) (digit-clear n)) (λ n l q. rw (digits-more n l) (clear-append c (digits (n / 10)) ((48 + n % 10) ∷ []) q (digit-clear (n % 10))))
+  digits-clear = by-digits (λ n. count (digits n) c ≡ 0) (λ n l. rw (digits-one n l) (digit-clear n))
+      (λ n l q. rw (digits-more n l) (clear-append c (digits (n / 10)) ((48 + n % 10) ∷ []) q (digit-clear (n % 10))))
 
   pub decimal-clear : (z : ℤ) → count (decimal z) c ≡ 0
   unfolding decimal count

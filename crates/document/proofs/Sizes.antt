@@ -58,7 +58,8 @@ count-most key a b rows h =
     let i = both (within (to a b) n) true (is-fit (countLine key a b) (countOf rows) h .inside) .0 in
     leb-true (length rows) b (both (leZ (pos a) n) (leZ n (pos b)) i .1)
 
-paragraph-most : (p : Paragraph) (seen : Sheet) (f : Filled) → soundParagraph p ≡ true → ParagraphKeeps p seen f → length (paragraphText p (f .rows)) ≤ paragraphSize p
+paragraph-most : (p : Paragraph) (seen : Sheet) (f : Filled) → soundParagraph p ≡ true → ParagraphKeeps p seen f
+    → length (paragraphText p (f .rows)) ≤ paragraphSize p
 paragraph-most (one l rule) seen f s h =
     let b : length (rowsText l (f .rows)) ≤ 1 * lineSize l = rw (h .1) at (rows-most l rule seen [] (f .rows) s (h .2)) in
     omega arith
@@ -69,14 +70,20 @@ paragraph-most (many key a b l rule) seen f s h =
     omega
     (arith, c, rows-most l rule seen [] (f .rows) (t .1) (h .2), m, length-append (lineText (countLine key a b) (countOf (f .rows))) (rowsText l (f .rows)))
 
-paragraphs-most : (ps : List Paragraph) (seen sheet : Sheet) → soundParagraphs ps ≡ true → ParagraphsKeep ps seen sheet → length (sheetText ps sheet) ≤ paragraphsSize ps
+paragraphs-most : (ps : List Paragraph) (seen sheet : Sheet) → soundParagraphs ps ≡ true → ParagraphsKeep ps seen sheet
+    → length (sheetText ps sheet) ≤ paragraphsSize ps
 unfolding sheetText
 paragraphs-most [] seen [] s h = omega arith
 paragraphs-most [] seen (f ∷ fs) s h = absurd h
 paragraphs-most (p ∷ ps) seen [] s h = absurd h
 paragraphs-most (p ∷ ps) seen (f ∷ fs) s h =
     let t = both (soundParagraph p) (soundParagraphs ps) s in
-    omega (arith, paragraph-most p seen f (t .0) (h .0), paragraphs-most ps (seen ++ (f ∷ [])) fs (t .1) (h .1), length-append (paragraphText p (f .rows)) (sheetText ps fs))
+    omega (
+      arith,
+      paragraph-most p seen f (t .0) (h .0),
+      paragraphs-most ps (seen ++ (f ∷ [])) fs (t .1) (h .1),
+      length-append (paragraphText p (f .rows)) (sheetText ps fs),
+    )
 
 -- THE LAW
 pub never-too-long : (d : Document) → Sound d → (sheet : Sheet) → LinesKeep d sheet → length (textOf d sheet) ≤ 16384

@@ -38,9 +38,13 @@ lines-got d sheet text n rest e =
     let s = andThen-got (readParagraph (d .first) [] 1 text) (λ top. readParagraphs (d .below top) top) sheet n rest e in
     let a = paragraph-got (d .first) [] (s .was) 1 text (s .line) (s .left) (s .first) in
     let f = a .part in
-    let e′ : readParagraphs (d .below (f ∷ [])) (f ∷ []) (s .line) (s .left) ≡ got sheet n rest = subst (λ (y : Sheet). readParagraphs (d .below y) y (s .line) (s .left) ≡ got sheet n rest) (a .made) (s .then) in
+    let e′ : readParagraphs (d .below (f ∷ [])) (f ∷ []) (s .line) (s .left) ≡ got sheet n rest =
+    subst (λ (y : Sheet). readParagraphs (d .below y) y (s .line) (s .left) ≡ got sheet n rest) (a .made) (s .then) in
     let b = paragraphs-got (d .below (f ∷ [])) (f ∷ []) sheet (s .line) (s .left) n rest e′ in
-    rw (b .made) (record { kept = (a .kept, b .kept); whole = followed (paragraphText (d .first) (f .rows)) (sheetText (d .below (f ∷ [])) (b .parts)) rest (a .whole) (b .whole) })
+    rw (b .made) (record {
+      kept = (a .kept, b .kept);
+      whole = followed (paragraphText (d .first) (f .rows)) (sheetText (d .below (f ∷ [])) (b .parts)) rest (a .whole) (b .whole);
+    })
 
 pub kept : (d : Document) (text : List ℕ) (sheet : Sheet) → readOf d text ≡ Good sheet → Accepted d text sheet
 unfolding readOf

@@ -92,7 +92,8 @@ RowsKeep l rule seen above (row ∷ rows) =
 
 abbrev pub ParagraphKeeps : Paragraph → Sheet → Filled → Type 0
 ParagraphKeeps (one l rule) seen f = (f .key ≡ l .key) × (length (f .rows) ≡ 1) × RowsKeep l rule seen [] (f .rows)
-ParagraphKeeps (many key a b l rule) seen f = (f .key ≡ l .key) × (fits (countLine key a b) (plain (pos (length (f .rows)) ∷ [])) ≡ true) × RowsKeep l rule seen [] (f .rows)
+ParagraphKeeps (many key a b l rule) seen f =
+    (f .key ≡ l .key) × (fits (countLine key a b) (plain (pos (length (f .rows)) ∷ [])) ≡ true) × RowsKeep l rule seen [] (f .rows)
 
 -- paragraph by paragraph, given what stands above
 abbrev pub Along : (Paragraph → Sheet → Filled → Type 0) → List Paragraph → Sheet → Sheet → Type 0

@@ -24,7 +24,8 @@ module _ {s : List ℕ} where
   pub none-read : {q : Place} → (good q ≡ true → Fair s q) → GroupRead s q [] q []
   none-read {q} f = record { after = λ seen. paragraphs-done s q seen (Said [] seen) refl f; passes = λ e. refl; fair = f }
 
-  all-seen : {p q : Place} (ps : List Paragraph) (xs : List Saying) → ((seen : Sheet) → After s p (readParagraphs ps seen) q (Said xs seen)) → GroupRead s p ps q xs
+  all-seen : {p q : Place} (ps : List Paragraph) (xs : List Saying) → ((seen : Sheet) → After s p (readParagraphs ps seen) q (Said xs seen))
+      → GroupRead s p ps q xs
   all-seen ps xs a = record { after = a; passes = a [] .passes; fair = a [] .fair }
 
   -- a line, then the paragraphs below it
@@ -55,7 +56,8 @@ module _ {s : List ℕ} where
 
   -- a group, then those below it, which may ask for what it said
   pub group-then : {p q q′ : Place} (ps qs : List Paragraph) (xs ys : List Saying) (seen : Sheet) → After s p (readParagraphs ps seen) q (Said xs seen)
-      → ((sheet : Sheet) → Said xs seen sheet → After s q (readParagraphs qs sheet) q′ (Said ys sheet)) → (good q ≡ false → q′ ≡ q) → (good q′ ≡ true → Fair s q′)
+      → ((sheet : Sheet) → Said xs seen sheet → After s q (readParagraphs qs sheet) q′ (Said ys sheet)) → (good q ≡ false → q′ ≡ q)
+      → (good q′ ≡ true → Fair s q′)
       → After s p (readParagraphs (ps ++ qs) seen) q′ (Said (xs ++ ys) seen)
   group-then {p} {q} {q′} ps qs xs ys seen a k g f =
       let Q = Said (xs ++ ys) seen in

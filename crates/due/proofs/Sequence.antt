@@ -104,7 +104,8 @@ module _ (s : List ℕ) (l : Line) (rule : Rule) (ps : List Paragraph) (seen : S
       subst (λ (x : Sheet). After s q (readParagraphs ps x) q′ Q) (sym (w .1 ∙ ap (λ (y : List Row). seen ++ filled l y) (r .1))) (k (r .0) (r .2))) g f
 
 -- a paragraph whose rows are known, then the paragraphs below it
-pub then-paragraph : (s : List ℕ) (part : Paragraph) (l : Line) (ps : List Paragraph) (seen : Sheet) (Q : Sheet → Type 0) (p q q′ : Place) (P : List Row → Type 0)
+pub then-paragraph : (s : List ℕ) (part : Paragraph) (l : Line) (ps : List Paragraph) (seen : Sheet) (Q : Sheet → Type 0) (p q q′ : Place)
+    (P : List Row → Type 0)
     → After s p (readParagraph part seen) q (With l seen P) → ((rows : List Row) → P rows → After s q (readParagraphs ps (seen ++ filled l rows)) q′ Q)
     → (good q ≡ false → q′ ≡ q) → (good q′ ≡ true → Fair s q′) → After s p (readParagraphs (part ∷ ps) seen) q′ Q
 unfolding readParagraphs
@@ -113,10 +114,12 @@ then-paragraph s part l ps seen Q p q q′ P a k g f =
     (λ sheet w. subst (λ (z : Sheet). After s q (readParagraphs ps z) q′ Q) (sym (w .1)) (k (w .0) (w .2))) g f
 
 -- some paragraphs, and then the paragraphs below them
-pub paragraphs-split : (ps qs : List Paragraph) (seen : Sheet) (n : ℕ) (t : List ℕ) → readParagraphs (ps ++ qs) seen n t ≡ andThen (readParagraphs ps seen n t) (readParagraphs qs)
+pub paragraphs-split : (ps qs : List Paragraph) (seen : Sheet) (n : ℕ) (t : List ℕ)
+    → readParagraphs (ps ++ qs) seen n t ≡ andThen (readParagraphs ps seen n t) (readParagraphs qs)
 unfolding readParagraphs
 paragraphs-split [] qs seen n t = refl
-paragraphs-split (p ∷ ps) qs seen n t = regroup (readParagraph p seen n t) (readParagraphs (ps ++ qs)) (readParagraphs ps) (readParagraphs qs) (paragraphs-split ps qs)
+paragraphs-split (p ∷ ps) qs seen n t = regroup (readParagraph p seen n t) (readParagraphs (ps ++ qs)) (readParagraphs ps) (readParagraphs qs)
+    (paragraphs-split ps qs)
 
 pub then-paragraphs : (s : List ℕ) (ps qs : List Paragraph) (seen : Sheet) (p q q′ : Place) (P Q : Sheet → Type 0) → After s p (readParagraphs ps seen) q P
     → ((sheet : Sheet) → P sheet → After s q (readParagraphs qs sheet) q′ Q) → (good q ≡ false → q′ ≡ q) → (good q′ ≡ true → Fair s q′)
@@ -125,6 +128,7 @@ then-paragraphs s ps qs seen p q q′ P Q a k g f =
     let w = after-bind s p q q′ (readParagraphs ps seen) (readParagraphs qs) P Q a k g f in
     record { reads = λ h. rw (paragraphs-split ps qs seen (p .line) (drop (p .at) s)) (w .reads h); passes = w .passes; fair = w .fair }
 
-pub paragraphs-done : (s : List ℕ) (q : Place) (seen : Sheet) (Q : Sheet → Type 0) → Q seen → (good q ≡ true → Fair s q) → After s q (readParagraphs [] seen) q Q
+pub paragraphs-done : (s : List ℕ) (q : Place) (seen : Sheet) (Q : Sheet → Type 0) → Q seen → (good q ≡ true → Fair s q)
+    → After s q (readParagraphs [] seen) q Q
 unfolding readParagraphs
 paragraphs-done s q seen Q h f = after-return s q seen Q h f

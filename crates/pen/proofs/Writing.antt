@@ -34,7 +34,8 @@ unfolding over
 over-over zero a b old =
     rw (zero-add, take-append-seam, drop-append-seam, drop-drop, length-append, append-assoc)
 over-over (suc at) a b [] =
-    rw (drop-nil, append-nil) (rw (take-all (suc at + length a) a (omega arith), drop-of-length-le a {i = suc at + length a} (omega arith)) (simp (drop-nil, append-nil)))
+    rw (drop-nil, append-nil) (rw (take-all (suc at + length a) a (omega arith), drop-of-length-le a {i = suc at + length a} (omega arith))
+    (simp (drop-nil, append-nil)))
 over-over (suc at) a b (x ∷ old) = rw suc-add (ap (λ (l : List ℕ). x ∷ l) (over-over at a b old))
 
 -- a text written at the front of the part that begins at `at`, once that part is put back
@@ -45,7 +46,12 @@ in-part at text old w =
     let l = length-drop at old in
     record {
       ends = omega (arith, w .ends);
-      holds = rw (w .holds, take-all (length old - at) (drop at old) (omega arith), drop-of-length-le (drop at old) {i = length old - at} (omega arith), append-nil);
+      holds = rw (
+        w .holds,
+        take-all (length old - at) (drop at old) (omega arith),
+        drop-of-length-le (drop at old) {i = length old - at} (omega arith),
+        append-nil,
+      );
     }
 
 -- A chain of calls that write: nothing is written yet, and one call more.
@@ -72,5 +78,6 @@ over-none old = refl
 pub last-first : (at b : ℕ) (a old : List ℕ) → length a ≡ at → at < length old → over 0 a (set old at b) ≡ over 0 (a ++ (b ∷ [])) old
 unfolding over
 last-first at b a old e h =
-    let d : drop at (set old at b) ≡ b ∷ drop (suc at) old = rw (set-split old at b h) (drop-at (take at old) (b ∷ drop (suc at) old) at (length-take-le at old (omega arith))) in
+    let d : drop at (set old at b) ≡ b ∷ drop (suc at) old =
+    rw (set-split old at b h) (drop-at (take at old) (b ∷ drop (suc at) old) at (length-take-le at old (omega arith))) in
     rw (length-append, append-assoc, e, d, add-one)

@@ -170,9 +170,11 @@ module _ (s : List ℕ) (start : Place) (e : EditionLine) (h : Heading) (f : Fue
       subst (λ (x : Sheet). After s (e .place) (readParagraphs (linesOf (editionIn x)) x) (z .place) Q)
       (sym (k .1 ∙ ap (λ (y : List Row). filled sheetLine y) (k .2 .1)))
       (after-weaker s (e .place) (z .place) _ (Said (aboveSays e h f d a b c ++ belowSays e h f d a b c Z) top) Q (held e h f d a b c Z r (k .2 .2))
-      (group-then (paragraphsOf (heading ++ (fuelling ++ (drying ++ (staging ++ loading))))) below-read (aboveSays e h f d a b c) (belowSays e h f d a b c Z) top
+      (group-then (paragraphsOf (heading ++ (fuelling ++ (drying ++ (staging ++ loading))))) below-read (aboveSays e h f d a b c)
+      (belowSays e h f d a b c Z) top
       (above .after top)
-      (λ sheet m. group-then (paragraphsOf surfaces) (paragraphsOf ending) (surfacesSay c) (says endLine Z ∷ []) sheet (hc .after sheet (below e h f d a b c r sheet m))
+      (λ sheet m. group-then (paragraphsOf surfaces) (paragraphsOf ending) (surfacesSay c) (says endLine Z ∷ []) sheet
+      (hc .after sheet (below e h f d a b c r sheet m))
       (λ u n. last .after u) (last .passes) (last .fair))
       (pass-on (hc .passes) (last .passes)) (last .fair)))))
       (pass-on (above .passes) (pass-on (hc .passes) (last .passes))) (last .fair)

@@ -87,7 +87,8 @@ read-digits = by-digits (λ n. digitsRead 0 (digits n) ≡ Value (pos n)) one mo
         rw (digits-more n h, read-append (digits (n / 10)) ((48 + n % 10) ∷ []) 0 (n / 10) e, read-single (n % 10) (n / 10) (omega arith), q)
 
 no-leading-zero : (n : ℕ) → leadingZero (digits n) ≡ false
-no-leading-zero = by-digits (λ n. leadingZero (digits n) ≡ false) (λ n h. rw (digits-one n h)) (λ n h q. rw (ne-eqb (getD (digits n) 0 0) 48 (λ e. omega (arith, leads n .nonzero (omega arith))), and-false))
+no-leading-zero = by-digits (λ n. leadingZero (digits n) ≡ false) (λ n h. rw (digits-one n h))
+    (λ n h q. rw (ne-eqb (getD (digits n) 0 0) 48 (λ e. omega (arith, leads n .nonzero (omega arith))), and-false))
 
 unsigned-digits : (w n : ℕ) → 0 < w → n < 10 ^ w → unsigned w (digits n) ≡ Value (pos n)
 unfolding unsigned

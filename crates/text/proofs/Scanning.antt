@@ -91,7 +91,8 @@ unfolding upTo count
 upTo-until c [] rest z = rw (eq-eqb c c refl)
 upTo-until c (b ∷ p) rest z = here (eqb b c) (upTo-until c p rest) z
   where
-    here : (t : Bool) → (count p c ≡ 0 → upTo c (p ++ (c ∷ rest)) ≡ p) → cond t (suc (count p c)) (count p c) ≡ 0 → cond t [] (b ∷ upTo c (p ++ (c ∷ rest))) ≡ b ∷ p
+    here : (t : Bool) → (count p c ≡ 0 → upTo c (p ++ (c ∷ rest)) ≡ p) → cond t (suc (count p c)) (count p c) ≡ 0
+        → cond t [] (b ∷ upTo c (p ++ (c ∷ rest))) ≡ b ∷ p
     here true q z = absurd (omega arith)
     here false q z = rw (q z)
 
@@ -109,7 +110,8 @@ unfolding count
 count-append [] b c = omega arith
 count-append (x ∷ a) b c = here (eqb x c) (count-append a b c)
   where
-    here : (t : Bool) → count (a ++ b) c ≡ count a c + count b c → cond t (suc (count (a ++ b) c)) (count (a ++ b) c) ≡ cond t (suc (count a c)) (count a c) + count b c
+    here : (t : Bool) → count (a ++ b) c ≡ count a c + count b c
+        → cond t (suc (count (a ++ b) c)) (count (a ++ b) c) ≡ cond t (suc (count a c)) (count a c) + count b c
     here true q = omega arith
     here false q = omega arith
 
@@ -138,7 +140,8 @@ begins-key [] s e = refl
 begins-key (k ∷ key) [] e = let z : _≡_ {A = ℕ} 0 1 = cc in absurd (omega arith)
 begins-key (k ∷ key) (b ∷ s) e = here (eqb b k) refl (begins-key key s) e
   where
-    here : (t : Bool) → eqb b k ≡ t → (begins key s ≡ true → s ≡ key ++ drop (length key) s) → t && begins key s ≡ true → b ∷ s ≡ k ∷ (key ++ drop (length key) s)
+    here : (t : Bool) → eqb b k ≡ t → (begins key s ≡ true → s ≡ key ++ drop (length key) s) → t && begins key s ≡ true
+        → b ∷ s ≡ k ∷ (key ++ drop (length key) s)
     here true q r e = rw (eqb-true b k q) (ap (λ (x : List ℕ). k ∷ x) (r e))
     here false q r e = let z : _≡_ {A = ℕ} 0 1 = cc in absurd (omega arith)
 

@@ -42,13 +42,16 @@ sub-if3 c =
     simp (toZ-ofZ fn, toZ-ofZ fd, toZ-ofZ (rem-fits (s .pre) fn fd)) (rest-fits (s .pre) fn fd (not-negative c))
 
 -- the four results
-downward : (c : tie.Then2) → quotZ (c .before .before .args .n) (c .before .before .args .d) -ℤ pos 1 ≡ nearest (c .before .before .args .n) (natAbs (c .before .before .args .d))
+downward : (c : tie.Then2) → quotZ (c .before .before .args .n) (c .before .before .args .d) -ℤ pos 1
+    ≡ nearest (c .before .before .args .n) (natAbs (c .before .before .args .d))
 downward c =
     let s = c .before .before in let fn = s .fits .n in let fd = s .fits .d in let g = negative (c .before) in
     down (s .args .n) (s .args .d) (s .pre) g
-    (simp (toZ-ofZ fn, toZ-ofZ fd, toZ-ofZ (rem-fits (s .pre) fn fd), toZ-ofZ (over-fits (s .pre) fn fd g), toZ-ofZ (short-fits (s .pre) fn fd g)) at (c .if2 .taken))
+    (simp (toZ-ofZ fn, toZ-ofZ fd, toZ-ofZ (rem-fits (s .pre) fn fd), toZ-ofZ (over-fits (s .pre) fn fd g), toZ-ofZ (short-fits (s .pre) fn fd g)) at
+    (c .if2 .taken))
 
-upward : (c : tie.Then3) → quotZ (c .before .before .args .n) (c .before .before .args .d) +ℤ pos 1 ≡ nearest (c .before .before .args .n) (natAbs (c .before .before .args .d))
+upward : (c : tie.Then3) → quotZ (c .before .before .args .n) (c .before .before .args .d) +ℤ pos 1
+    ≡ nearest (c .before .before .args .n) (natAbs (c .before .before .args .d))
 upward c =
     let s = c .before .before in let fn = s .fits .n in let fd = s .fits .d in let g = not-negative (c .before) in
     rise (s .args .n) (s .args .d) (s .pre) g
@@ -73,7 +76,8 @@ returns-2 : tie.Need-returns-2
 returns-2 c =
     let s = c .before .before in let fn = s .fits .n in let fd = s .fits .d in let g = negative (c .before) in
     let e = stay (s .args .n) (s .args .d) (s .pre) g
-    (simp (toZ-ofZ fn, toZ-ofZ fd, toZ-ofZ (rem-fits (s .pre) fn fd), toZ-ofZ (over-fits (s .pre) fn fd g), toZ-ofZ (short-fits (s .pre) fn fd g)) at (c .if2 .left)) in
+    (simp (toZ-ofZ fn, toZ-ofZ fd, toZ-ofZ (rem-fits (s .pre) fn fd), toZ-ofZ (over-fits (s .pre) fn fd g), toZ-ofZ (short-fits (s .pre) fn fd g)) at
+    (c .if2 .left)) in
     simp (toZ-ofZ fn, toZ-ofZ fd, e, toZ-ofZ (nearest-fits (s .pre) fn fd))
 
 returns-3 : tie.Need-returns-3

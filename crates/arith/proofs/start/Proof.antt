@@ -6,7 +6,8 @@ use Rattle.arith.proofs.RootLaws.{from-twice}
 use Rattle.arith.proofs.start.Statement.{statement}
 use Rattle.arith.proofs.start.Tie as tie
 
-started : (n r : ℕ) → 0 < r → n / (4 * r) + r < 4294967296 → (0 < n / (4 * r) + r) × (n / (4 * r) + r < 4294967296) × (n < (n / (4 * r) + r + 1) * (n / (4 * r) + r + 1))
+started : (n r : ℕ) → 0 < r → n / (4 * r) + r < 4294967296 → (0 < n / (4 * r) + r) × (n / (4 * r) + r < 4294967296)
+    × (n < (n / (4 * r) + r + 1) * (n / (4 * r) + r + 1))
 started n r h f = (omega arith, f, from-twice n r h)
 
 returns-2 : tie.Need-returns-2

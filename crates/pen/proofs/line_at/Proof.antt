@@ -27,7 +27,8 @@ add-result c =
 returns : tie.Need-returns
 returns c =
     let s = c .before .before .before .before .before .before in
-    in-part (s .args .at) (line (s .args .key .now) (s .args .z)) (s .args .out .now) (rw (toZ-ofZ w64 (s .args .z) (s .fits .z)) at (c .before .before .put-line .ensures))
+    in-part (s .args .at) (line (s .args .key .now) (s .args .z)) (s .args .out .now)
+    (rw (toZ-ofZ w64 (s .args .z) (s .fits .z)) at (c .before .before .put-line .ensures))
 
 pub line-at-spec : {M : Type 1} → statement M
 line-at-spec =

@@ -26,7 +26,8 @@ loop-again c =
     let l = c .before .before .loop in
     let a = c .before .before .before .before .before .before .args in
     let b = getD (a .src .now) (l .i) 0 in
-    let e : take (l .i + 1) (a .src .now) ≡ take (l .i) (a .src .now) ++ (b ∷ []) = rw add-one (take-suc (a .src .now) (l .i) 0 (c .before .loop-test .taken)) in (
+    let e : take (l .i + 1) (a .src .now) ≡ take (l .i) (a .src .now) ++ (b ∷ []) =
+    rw add-one (take-suc (a .src .now) (l .i) 0 (c .before .loop-test .taken)) in (
       omega arith,
       rw e (next (l .inv .1) (one-byte (l .i) b (l .out) (omega arith))),
       simp length-set (l .inv .2),

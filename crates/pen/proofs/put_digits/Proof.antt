@@ -31,7 +31,8 @@ turn : (i rest : ℕ) (out : List ℕ) → 0 < i → i ≤ length out →
     over 0 (lastDigits (i - 1) (rest / 10)) (set out (i - 1) (48 + rest % 10)) ≡ over 0 (lastDigits i rest) out
 turn i rest out h f =
     let e : i - 1 + 1 ≡ i = omega arith in
-    let m : lastDigits i rest ≡ lastDigits (i - 1) (rest / 10) ++ ((48 + rest % 10) ∷ []) = subst (λ t. lastDigits t rest ≡ lastDigits (i - 1) (rest / 10) ++ ((48 + rest % 10) ∷ [])) e (last-more (i - 1) rest) in
+    let m : lastDigits i rest ≡ lastDigits (i - 1) (rest / 10) ++ ((48 + rest % 10) ∷ []) =
+    subst (λ t. lastDigits t rest ≡ lastDigits (i - 1) (rest / 10) ++ ((48 + rest % 10) ∷ [])) e (last-more (i - 1) rest) in
     rw m (last-first (i - 1) (48 + rest % 10) (lastDigits (i - 1) (rest / 10)) out (length-last (i - 1) (rest / 10)) (omega arith))
 
 loop-again : tie.Need-loop-again Inv-loop μ-loop
@@ -46,7 +47,8 @@ returns : tie.Need-returns Inv-loop μ-loop
 returns c =
     let l = c .before .loop in
     let e : l .i ≡ 0 = omega (arith, c .loop-test .left) in
-    let w : over 0 (lastDigits 0 (l .rest)) (l .out) ≡ over 0 (digits (c .before .before .before .before .args .n)) (c .before .before .before .before .args .out .now) = rw e at (l .inv .1) in
+    let w : over 0 (lastDigits 0 (l .rest)) (l .out) ≡ over 0 (digits (c .before .before .before .before .args .n))
+    (c .before .before .before .before .args .out .now) = rw e at (l .inv .1) in
     record { ends = omega (arith, c .before .before .digit-count .ensures); holds = rw (last-none, over-none) at w }
 
 pub put-digits-spec : {M : Type 1} → statement M

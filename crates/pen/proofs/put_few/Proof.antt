@@ -14,7 +14,8 @@ use Rattle.pen.proofs.put_few.Statement.{statement}
 use Rattle.pen.proofs.put_few.Tie as tie
 
 abbrev Inv-loop : tie.InvT-loop
-Inv-loop out₀ src put₀ turn₀ out put turn = (put ≤ length src) × Written 0 (take put src) out₀ out put × (length out ≡ length out₀) × (length src + turn ≤ put + 8) × (turn ≤ 8)
+Inv-loop out₀ src put₀ turn₀ out put turn = (put ≤ length src) × Written 0 (take put src) out₀ out put × (length out ≡ length out₀)
+    × (length src + turn ≤ put + 8) × (turn ≤ 8)
 
 abbrev μ-loop : tie.MeasureT-loop
 μ-loop out₀ src put₀ turn₀ out put turn = 8 - turn
@@ -27,9 +28,16 @@ loop-again c =
     let l = c .before .before .loop in
     let a = c .before .before .before .args in
     let b = getD (a .src .now) (l .put) 0 in
-    let e : l .put < length (a .src .now) → take (l .put + 1) (a .src .now) ≡ take (l .put) (a .src .now) ++ (b ∷ []) = λ h. rw add-one (take-suc (a .src .now) (l .put) 0 h) in
+    let e : l .put < length (a .src .now) → take (l .put + 1) (a .src .now) ≡ take (l .put) (a .src .now) ++ (b ∷ []) =
+    λ h. rw add-one (take-suc (a .src .now) (l .put) 0 h) in
     ⊎-elim
-    (λ w. rw (w .2, w .3) (omega arith, rw (e (w .0 .taken)) (next (l .inv .1) (one-byte (l .put) b (l .out) (omega arith))), simp length-set (l .inv .2), omega arith, omega arith))
+    (λ w. rw (w .2, w .3) (
+      omega arith,
+      rw (e (w .0 .taken)) (next (l .inv .1) (one-byte (l .put) b (l .out) (omega arith))),
+      simp length-set (l .inv .2),
+      omega arith,
+      omega arith,
+    ))
     (λ w. rw (w .1, w .2) (l .inv .0, l .inv .1, l .inv .2, omega (arith, w .0 .left), omega arith))
     (c .if1 .came)
 

@@ -17,10 +17,12 @@ room : (s : tie.Start) → length (s .args .key .now) + length (decimal (W (s .a
 room s = rw (toZ-ofZ w64 (s .args .z) (s .fits .z)) (omega (arith, length-line (s .args .key .now) (s .args .z)))
 
 -- how much room is left behind the key, behind `=`, and behind the number
-after-key : (c : tie.After-bytes-at) → c .bytes-at .result + length (decimal (W (c .before .before .before .before .args .z))) + 2 ≤ length (c .bytes-at .last .0)
+after-key : (c : tie.After-bytes-at) → c .bytes-at .result + length (decimal (W (c .before .before .before .before .args .z))) + 2 ≤ length
+    (c .bytes-at .last .0)
 after-key c = omega (arith, room (c .before .before .before .before), c .bytes-at .ensures .ends, c .bytes-at .kept .0)
 
-after-equals : (c : tie.After-bytes-at2) → c .bytes-at2 .result + length (decimal (W (c .before .before .before .before .before .before .before .before .before .args .z))) + 1 ≤ length (c .bytes-at2 .last .0)
+after-equals : (c : tie.After-bytes-at2) → c .bytes-at2 .result + length
+    (decimal (W (c .before .before .before .before .before .before .before .before .before .args .z))) + 1 ≤ length (c .bytes-at2 .last .0)
 after-equals c = omega (arith, after-key (c .before .before .before .before .before), c .bytes-at2 .ensures .ends, c .bytes-at2 .kept .0)
 
 bytes-at-requires : tie.Need-bytes-at-requires

@@ -44,7 +44,8 @@ not-twice true e = clash cc
 not-twice false e = refl
 
 one-shown : (i : ℕ) (lines : List Sectionˢ) (rows : List Row) (x : Sectionˢ) (row : Row) → i < 12 → SectionsShown i lines rows
-    → (section x ≡ sectionOf row) × (sectionFault (map section (take i lines)) (sectionOf row) ≡ none) → SectionsShown (i + 1) (set lines i x) (rows ++ (row ∷ []))
+    → (section x ≡ sectionOf row) × (sectionFault (map section (take i lines)) (sectionOf row) ≡ none)
+    → SectionsShown (i + 1) (set lines i x) (rows ++ (row ∷ []))
 one-shown i lines rows x row h w e =
     let S = map section (take i lines) in
     let n = sectionOf row .number in

@@ -36,7 +36,8 @@ returns c =
     let last = walls-pass (a .s .now) q S (a .stages) (w .result) (w .ensures) in
     record {
       after = λ seen b.
-          paragraph-then (a .p) q q′ (sections .paragraph) sectionLine (SectionRows (d .result .sections)) (walls .paragraph ∷ []) (saysAll wallLine Walls ∷ []) seen
+          paragraph-then (a .p) q q′ (sections .paragraph) sectionLine (SectionRows (d .result .sections)) (walls .paragraph ∷ [])
+          (saysAll wallLine Walls ∷ []) seen
           (d .ensures .after seen (b .sections))
           (λ rows h.
           (let t = seen ++ filled sectionLine rows in

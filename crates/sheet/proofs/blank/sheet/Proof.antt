@@ -1,11 +1,18 @@
--- The parts' contracts. Assumes nothing.
+-- What the blanks of its blocks promise. Assumes nothing.
 use borrow.Author.Needs.{needs}
 use Rattle.sheet.proofs.blank.sheet.Statement.{statement}
 use Rattle.sheet.proofs.blank.sheet.Tie as tie
 
 returns : tie.Need-returns
 returns c =
-    rw (c .reading .ensures, c .before .section .ensures, c .before .before .part .ensures, c .before .before .before .setter .ensures, c .before .before .before .before .stage .ensures, c .before .before .before .before .before .head .ensures)
+    let section = c .before in
+    let part = section .before in
+    let setter = part .before in
+    let stage = setter .before in
+    rw (c .reading .ensures, section .section .ensures, part .part .ensures, setter .setter .ensures, stage .stage .ensures, stage .before .head .ensures)
 
 pub sheet-spec : {M : Type 1} → statement M
-sheet-spec = tie.close (tie.spec (λ c κs. search needs) (λ c κs. search needs) (λ c κs. search needs) (λ c κs. search needs) (λ c κs. search needs) (λ c κs. search needs) returns)
+sheet-spec =
+    tie.close
+    (tie.spec (λ c κs. search needs) (λ c κs. search needs) (λ c κs. search needs) (λ c κs. search needs) (λ c κs. search needs)
+    (λ c κs. search needs) returns)

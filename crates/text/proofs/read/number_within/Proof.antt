@@ -28,13 +28,15 @@ some : (c : tie.Then1) → 1 ≤ length (c .before .before .before .before .args
 some c = omega (arith, ap length (begins-key (bytes "-") (c .before .before .before .before .args .f .now) (signed c)))
 
 -- what stands behind the sign, and what it makes of the whole
-behind : (c : tie.After-unsigned) → c .unsigned .result ≡ unsigned (c .before .before .before .before .before .before .args .most) (drop 1 (c .before .before .before .before .before .before .args .f .now))
+behind : (c : tie.After-unsigned) → c .unsigned .result ≡ unsigned (c .before .before .before .before .before .before .args .most)
+    (drop 1 (c .before .before .before .before .before .before .args .f .now))
 behind c =
     let a = c .before .before .before .before .before .before .args in
     let f = a .f .now in
     c .unsigned .ensures ∙ ap (unsigned (a .most)) (take-all (length f - 1) (drop 1 f) (le-of-eq (length-drop 1 f)))
 
-whole : (c : tie.After-unsigned) → numberWithin (c .before .before .before .before .before .before .args .most) (c .before .before .before .before .before .before .args .f .now) ≡ negated (c .unsigned .result)
+whole : (c : tie.After-unsigned) → numberWithin (c .before .before .before .before .before .before .args .most)
+    (c .before .before .before .before .before .before .args .f .now) ≡ negated (c .unsigned .result)
 unfolding numberWithin
 whole c = rw (signed (c .before .before), behind c)
 
@@ -70,7 +72,8 @@ returns-3 c = sym (whole (c .before .before) ∙ ap negated (c .enum-told .given
 returns-4 : tie.Need-returns-4
 unfolding numberWithin
 returns-4 c =
-    let plain : begins (bytes "-") (c .before .before .before .before .before .args .f .now) ≡ false = sym (c .before .before .starts .ensures) ∙ c .before .if1 .left in
+    let plain : begins (bytes "-") (c .before .before .before .before .before .args .f .now) ≡ false =
+    sym (c .before .before .starts .ensures) ∙ c .before .if1 .left in
     rw plain (c .unsigned2 .ensures)
 
 pub number-within-spec : {M : Type 1} → statement M
