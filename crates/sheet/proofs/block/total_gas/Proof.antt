@@ -23,7 +23,7 @@ abbrev gas : Stage → ℤ
 gas x = x .gas
 
 abbrev Inv-loop : tie.InvT-loop
-Inv-loop lines count sum₀ i₀ sum i = (i ≤ count) × (natAbs (sum .0) ≤ i * 2 ^ 31) × (sum .0 ≡ first gas stage lines i)
+Inv-loop lines count sum₀ i₀ sum i = (sum .0 ≡ first gas stage lines i) × (i ≤ count) × (natAbs (sum .0) ≤ i * 2 ^ 31)
 
 abbrev μ-loop : tie.MeasureT-loop
 μ-loop lines count sum₀ i₀ sum i = count - i
@@ -33,7 +33,7 @@ held-requires c κs = search needs
 
 loop-holds : tie.Need-loop-holds Inv-loop μ-loop
 unfolding sum
-loop-holds c = (omega arith, omega arith, refl)
+loop-holds c = (refl, omega arith, omega arith)
 
 mul-stage : tie.Need-mul-stage Inv-loop μ-loop
 mul-stage c = omega arith
@@ -55,7 +55,7 @@ narrow : (c : tie.After-struct-told Inv-loop μ-loop) → SFits w32 (line c .gas
 narrow c = search needs
 
 abbrev known : tie.After-struct-told Inv-loop μ-loop → List Known
-known c = whole (narrow c) ∷ small (turn c .loop .sum .0) {B = 12 * 2 ^ 31} (omega (arith, turn c .loop .inv .1)) ∷ []
+known c = whole (narrow c) ∷ small (turn c .loop .sum .0) {B = 12 * 2 ^ 31} (omega (arith, turn c .loop .inv .2)) ∷ []
 
 cast-t13 : tie.Need-cast-t13 Inv-loop μ-loop
 cast-t13 c = fits (known c) w64 (from w32 (arg 0)) tt
@@ -79,9 +79,9 @@ loop-again c =
     let s = start (turn told) in
     let more = next gas stage (s .args .stages .lines) (at .i) blankStage (omega (arith, long s)) in
     rw (result (known told) w64 (arg 1 ⟨+⟩ from w32 (arg 0)) tt) (
+      ap (λ (y : ℤ). y +ℤ line told .gas .0) (at .inv .0) ∙ sym (ap (first gas stage (s .args .stages .lines)) (add-one (at .i)) ∙ more),
       omega arith,
-      omega (arith, bound-add (at .sum .0) (line told .gas .0) (at .inv .1) (abs-sfits (narrow told))),
-      ap (λ (y : ℤ). y +ℤ line told .gas .0) (at .inv .2) ∙ sym (ap (first gas stage (s .args .stages .lines)) (add-one (at .i)) ∙ more),
+      omega (arith, bound-add (at .sum .0) (line told .gas .0) (at .inv .2) (abs-sfits (narrow told))),
     )
 
 returns : tie.Need-returns Inv-loop μ-loop
@@ -91,7 +91,7 @@ returns c =
     let n = start (c .before) .args .stages .count .0 in
     let e : at .i ≡ min n 12 = omega arith in
     let all = ap (λ (j : ℕ). take j lines) e ∙ held lines n (long (start (c .before))) in
-    at .inv .2 ∙ ap (λ (l : List Stageˢ). sum gas (map stage l)) all
+    at .inv .0 ∙ ap (λ (l : List Stageˢ). sum gas (map stage l)) all
 
 pub total-gas-spec : {M : Type 1} → statement M
 total-gas-spec =
