@@ -61,3 +61,22 @@ pub blocked : {A B : Type 0} (f : B → ℤ) (g : A → B) (l : List A) (n most 
 blocked {A} f g l n most {k} {B₁} {i} {m} long e p =
     let h : i ≤ most = omega arith in
     subst (λ (r : List A). Figure k (most * B₁) m (sum f (map g r))) (ap (λ (j : ℕ). take j l) e ∙ held l n long) (at-most most h p)
+
+-- two figures of each line, summed in one loop: m and n units over the first i lines
+pub record Both {A B : Type 0} (f g : B → ℤ) (shown : A → B) (l : List A) (unit most₁ most₂ i : ℕ) (m n : ℤ) : Type 0 where
+  pub one : Running unit most₁ i m (first f shown l i)
+  pub two : Running unit most₂ i n (first g shown l i)
+
+module _ {A B : Type 0} {f g : B → ℤ} {shown : A → B} {l : List A} {unit most₁ most₂ : ℕ} where
+  pub begun : Both f g shown l unit most₁ most₂ 0 (pos 0) (pos 0)
+  unfolding sum
+  begun = record { one = none; two = none }
+
+  pub again : (d : A) {i : ℕ} {m n a b x y : ℤ} → i < length l → Both f g shown l unit most₁ most₂ i m n →
+      Figure unit most₁ a (f (shown (getD l i d))) → Figure unit most₂ b (g (shown (getD l i d))) →
+      x ≡ m +ℤ a → y ≡ n +ℤ b → Both f g shown l unit most₁ most₂ (i + 1) x y
+  again d h p q₁ q₂ e₁ e₂ = rw (e₁, e₂) (record { one = summed f shown l d h (p .one) q₁; two = summed g shown l d h (p .two) q₂ })
+
+  pub ended : (count most : ℕ) {i : ℕ} {m n : ℤ} → length l ≡ most → i ≡ min count most → Both f g shown l unit most₁ most₂ i m n →
+      Figure unit (most * most₁) m (sum f (map shown (take count l))) × Figure unit (most * most₂) n (sum g (map shown (take count l)))
+  ended count most long e p = (blocked f shown l count most long e (p .one), blocked g shown l count most long e (p .two))

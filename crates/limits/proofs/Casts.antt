@@ -5,11 +5,12 @@ use mathlib.Core.Path.{_≡_, ap, _∙_}
 use borrow.Author.Needs.{sfits-of}
 use lib.Dec.{leb→le}
 use lib.IntN.{ℤ, pos, negsuc}
-use lib.Signed.{mag}
-use mir.Syntax.{Width, w32, w64}
+use lib.Signed.{mag, _≤ℤ_}
+use mir.Syntax.{Width, w16, w32, w64}
 use mir.Val.{hbits, SFits, toZ, ofZ}
 use mir.Facts.{sfits-widen, toZ-ofZ}
-use Rattle.limits.proofs.Laws.{Between}
+use Rattle.limits.specs.Checked.{Measured}
+use Rattle.limits.proofs.Laws.{Between, within}
 
 below : (least greatest z : ℤ) (n : ℕ) → Between least greatest z → mag least < n → mag greatest < n → mag z < n
 below least (pos g) (pos z) n b l h = omega (arith, leb→le z g (b .high .le))
@@ -27,6 +28,15 @@ module _ {from to : Width} {z : ℤ} (before : SFits from z) (after : SFits to z
 
   pub cast-is : toZ to (ofZ to (toZ from (ofZ from z))) ≡ z
   cast-is = ap (λ x. toZ to (ofZ to x)) (toZ-ofZ before) ∙ toZ-ofZ after
+
+-- What was held to limits that fit sixteen bits is narrowed to them, and stands as it is.
+module _ {least greatest v value : ℤ} {fault field after : ℕ} (low : SFits w16 least) (high : SFits w16 greatest) (order : least ≤ℤ greatest)
+    (wide : SFits w32 value) (m : Measured least greatest v fault field value after) where
+  pub narrows : SFits w16 (toZ w32 (ofZ w32 value))
+  narrows = cast-fits wide (between-fits low high (within m order))
+
+  pub narrowed : Measured least greatest v fault field (toZ w16 (ofZ w16 (toZ w32 (ofZ w32 value)))) after
+  narrowed = rw (cast-is wide (between-fits low high (within m order))) m
 
 -- What is kept in 32 bits is counted with in 64.
 module _ {z : ℤ} (fits : SFits w32 z) where

@@ -4,28 +4,25 @@ use mathlib.Core.List.{List}
 use Prim.Native.Nat.{ℕ, _≤_, _<_, _-_, min}
 use native.Mathlib.Omega.{arith}
 use borrow.Author.Needs.{needs}
-use lib.IntN.{ℤ}
 use lib.ListN.{length, getD}
 use Rattle.sheet.specs.declared.Stage.{Stage as Stageˢ}
-use Rattle.sheet.specs.Firing.{Stage}
 use Rattle.sheet.specs.Shown.{stage}
-use Rattle.sheet.specs.Block.{sum}
-use Rattle.sheet.proofs.Sums.{unmapped, blankStage, first}
+use Rattle.sheet.proofs.Sums.{unmapped, blankStage}
 use Rattle.document.specs.Limits.{StageIn}
 use Rattle.formulas.specs.Rounding.{paper}
 use Rattle.formulas.specs.Formulas.{joule, flueHeat, monoxideHeat, x7, x8}
 use Rattle.document.specs.Quantities.{stagesMost}
 use Rattle.formulas.specs.Sizes.{flueHeatMost, monoxideHeatMost}
 use Rattle.burning.specs.Mixture.{burning as burningOf}
-use Rattle.formulas.proofs.Sums.{each, Running, none, more-fits, summed, blocked}
+use Rattle.formulas.proofs.Sums.{each, more-fits, Both, begun, again, ended}
 use Rattle.flue.proofs.flue_heats.Statement.{statement}
 use Rattle.flue.proofs.flue_heats.Tie as tie
 
 abbrev Inv-loop : tie.InvT-loop
 Inv-loop burning moisture t lines count x7₀ x8₀ i₀ x7 x8 i =
     (i ≤ count)
-    × Running joule flueHeatMost i (x7 .0) (first (flueHeat paper (burningOf burning) (moisture .0) (t .0)) stage lines i)
-    × Running joule monoxideHeatMost i (x8 .0) (first (monoxideHeat paper (burningOf burning)) stage lines i)
+    × Both (flueHeat paper (burningOf burning) (moisture .0) (t .0)) (monoxideHeat paper (burningOf burning)) stage lines
+    joule flueHeatMost monoxideHeatMost i (x7 .0) (x8 .0)
 
 abbrev μ-loop : tie.MeasureT-loop
 μ-loop burning moisture t lines count x7₀ x8₀ i₀ x7 x8 i = count - i
@@ -33,42 +30,20 @@ abbrev μ-loop : tie.MeasureT-loop
 abbrev lines : tie.Start Inv-loop μ-loop → List Stageˢ
 lines s = s .args .stages .lines
 
--- both heats of a stage, of the firing that the parameters show
-abbrev flueHeatOf : tie.Start Inv-loop μ-loop → Stage → ℤ
-flueHeatOf s = flueHeat paper (burningOf (s .args .burning)) (s .args .moisture .0) (s .args .t .0)
-
-abbrev monoxideHeatOf : tie.Start Inv-loop μ-loop → Stage → ℤ
-monoxideHeatOf s = monoxideHeat paper (burningOf (s .args .burning))
-
 long : (s : tie.Start Inv-loop μ-loop) → length (lines s) ≡ stagesMost
 long s = search (needs, unmapped)
 
 kept : (s : tie.Start Inv-loop μ-loop) (i : ℕ) → i < s .args .stages .count .0 → i < stagesMost → StageIn (stage (getD (lines s) i blankStage))
 kept s i h k = each StageIn stage (lines s) (s .args .stages .count .0) i blankStage (s .pre .stages) h (omega (arith, long s))
 
-held-requires : tie.Need-held-requires Inv-loop μ-loop
-held-requires c κs = search needs
-
-loop-holds : tie.Need-loop-holds Inv-loop μ-loop
-unfolding sum
-loop-holds c = (omega arith, none, none)
-
-mul-stage-heats : tie.Need-mul-stage-heats Inv-loop μ-loop
-mul-stage-heats c = omega arith
-
-array-copy-out-stage-heats : tie.Need-array-copy-out-stage-heats Inv-loop μ-loop
-array-copy-out-stage-heats c = omega arith
-
 loop-again : tie.Need-loop-again Inv-loop μ-loop
 loop-again c =
     let h = c .before .before in
     let l = h .before .before .before in
     let s = l .before .before .before in
-    let inside : l .loop .i < length (lines s) = omega (arith, long s) in (
-      omega arith,
-      rw (c .before .plus .ensures) (summed (flueHeatOf s) stage (lines s) blankStage inside (l .loop .inv .1) (h .stage-heats .ensures .0)),
-      rw (c .plus2 .ensures) (summed (monoxideHeatOf s) stage (lines s) blankStage inside (l .loop .inv .2) (h .stage-heats .ensures .1)),
-    )
+    let inside : l .loop .i < length (lines s) = omega (arith, long s) in
+    let stage = h .stage-heats .ensures in
+    (omega arith, again blankStage inside (l .loop .inv .1) (stage .0) (stage .1) (c .before .plus .ensures) (c .plus2 .ensures))
 
 stage-heats-requires : tie.Need-stage-heats-requires Inv-loop μ-loop
 stage-heats-requires c κs =
@@ -80,17 +55,11 @@ stage-heats-requires c κs =
 
 plus-requires : tie.Need-plus-requires Inv-loop μ-loop
 plus-requires c κs =
-    more-fits (c .before .before .before .loop .inv .1) (c .stage-heats .ensures .0) stagesMost (omega arith) tt
+    more-fits (c .before .before .before .loop .inv .1 .one) (c .stage-heats .ensures .0) stagesMost (omega arith) tt
 
 plus-requires-2 : tie.Need-plus-requires-2 Inv-loop μ-loop
 plus-requires-2 c κs =
-    more-fits (c .before .before .before .before .loop .inv .2) (c .before .stage-heats .ensures .1) stagesMost (omega arith) tt
-
-add-i : tie.Need-add-i Inv-loop μ-loop
-add-i c = search needs
-
-loop-less : tie.Need-loop-less Inv-loop μ-loop
-loop-less c = search needs
+    more-fits (c .before .before .before .before .loop .inv .1 .two) (c .before .stage-heats .ensures .1) stagesMost (omega arith) tt
 
 returns : tie.Need-returns Inv-loop μ-loop
 unfolding x7 x8
@@ -98,25 +67,12 @@ returns c =
     let s = c .before .before .before .before in
     let l = c .before .loop in
     let n = s .args .stages .count .0 in
-    let e : l .i ≡ min n stagesMost = omega arith in (
-      λ f e₀ e₁ e₂ e₃. rw (e₀, e₁, e₂, e₃) (blocked (flueHeatOf s) stage (lines s) n stagesMost (long s) e (l .inv .1)),
-      λ f e₀ e₁. rw (e₀, e₁) (blocked (monoxideHeatOf s) stage (lines s) n stagesMost (long s) e (l .inv .2)),
-    )
+    let e : l .i ≡ min n stagesMost = omega arith in
+    let sums = ended n stagesMost (long s) e (l .inv .1) in
+    (λ f e₀ e₁ e₂ e₃. rw (e₀, e₁, e₂, e₃) (sums .0), λ f e₀ e₁. rw (e₀, e₁) (sums .1))
 
 pub flue-heats-spec : {M : Type 1} → statement M
 flue-heats-spec =
     tie.close
-    (tie.spec
-    Inv-loop
-    μ-loop
-    held-requires
-    loop-holds
-    mul-stage-heats
-    array-copy-out-stage-heats
-    stage-heats-requires
-    plus-requires
-    plus-requires-2
-    add-i
-    loop-less
-    loop-again
-    returns)
+    (tie.spec Inv-loop μ-loop (λ c κs. search needs) (λ c. (omega arith, begun)) (λ c. omega arith) (λ c. omega arith)
+    stage-heats-requires plus-requires plus-requires-2 (λ c. search needs) (λ c. search needs) loop-again returns)

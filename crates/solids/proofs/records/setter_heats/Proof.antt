@@ -9,15 +9,14 @@ use lib.ListN.{length, getD}
 use Rattle.sheet.specs.declared.Setter.{Setter as Setterˢ}
 use Rattle.sheet.specs.Firing.{Setter}
 use Rattle.sheet.specs.Shown.{setter}
-use Rattle.sheet.specs.Block.{sum}
-use Rattle.sheet.proofs.Sums.{unmapped, first}
+use Rattle.sheet.proofs.Sums.{unmapped}
+use Rattle.document.specs.Quantities.{settersMost}
 use Rattle.document.specs.Limits.{SetterIn}
 use Rattle.formulas.specs.Rounding.{paper}
 use Rattle.formulas.specs.Formulas.{joule, sensible, q3, x5}
-use Rattle.document.specs.Quantities.{settersMost}
 use Rattle.formulas.specs.Sizes.{sensibleMost}
 use Rattle.formulas.proofs.Sizes.{sized}
-use Rattle.formulas.proofs.Sums.{each, Running, none, more-fits, summed, blocked}
+use Rattle.formulas.proofs.Sums.{each, more-fits, Both, begun, again, ended}
 use Rattle.solids.proofs.Blank.{blankSetter}
 use Rattle.solids.proofs.records.setter_heats.Statement.{statement}
 use Rattle.solids.proofs.records.setter_heats.Tie as tie
@@ -31,9 +30,7 @@ taken highest x = sensible paper (x .mass) (x .stuff) highest (x .entry)
 
 abbrev Inv-loop : tie.InvT-loop
 Inv-loop t highest lines count q3₀ x5₀ i₀ q3 x5 i =
-    (i ≤ count)
-    × Running joule sensibleMost i (q3 .0) (first (brought (t .0)) setter lines i)
-    × Running joule sensibleMost i (x5 .0) (first (taken (highest .0)) setter lines i)
+    (i ≤ count) × Both (brought (t .0)) (taken (highest .0)) setter lines joule sensibleMost sensibleMost i (q3 .0) (x5 .0)
 
 abbrev μ-loop : tie.MeasureT-loop
 μ-loop t highest lines count q3₀ x5₀ i₀ q3 x5 i = count - i
@@ -51,31 +48,14 @@ L c = c .before .before
 abbrev S : tie.At-loop Inv-loop μ-loop → tie.Start Inv-loop μ-loop
 S c = c .before .before .before
 
-held-requires : tie.Need-held-requires Inv-loop μ-loop
-held-requires c κs = search needs
-
-loop-holds : tie.Need-loop-holds Inv-loop μ-loop
-unfolding sum
-loop-holds c = (omega arith, none, none)
-
 loop-again : tie.Need-loop-again Inv-loop μ-loop
 loop-again c =
     let second = c .before in
-    let both = second .before in
-    let one = both .before in
+    let plus = second .before in
+    let one = plus .before in
     let l = L (one .before) in
-    let s = S l in
-    let inside : l .loop .i < length (lines s) = omega (arith, long s) in (
-      omega arith,
-      rw (both .plus .ensures) (summed (brought (s .args .t .0)) setter (lines s) blankSetter inside (l .loop .inv .1) (one .sensible .ensures)),
-      rw (c .plus2 .ensures) (summed (taken (s .args .highest .0)) setter (lines s) blankSetter inside (l .loop .inv .2) (second .sensible2 .ensures)),
-    )
-
-mul-setter : tie.Need-mul-setter Inv-loop μ-loop
-mul-setter c = omega arith
-
-array-copy-out-setter : tie.Need-array-copy-out-setter Inv-loop μ-loop
-array-copy-out-setter c = omega arith
+    let inside : l .loop .i < length (lines (S l)) = omega (arith, long (S l)) in
+    (omega arith, again blankSetter inside (l .loop .inv .1) (one .sensible .ensures) (second .sensible2 .ensures) (plus .plus .ensures) (c .plus2 .ensures))
 
 -- the setter of this turn is within its limits
 within : (c : tie.After-setter Inv-loop μ-loop) → SetterIn (setter (getD (lines (S (L c))) (L c .loop .i) blankSetter))
@@ -86,53 +66,30 @@ within c =
 sensible-requires : tie.Need-sensible-requires Inv-loop μ-loop
 sensible-requires c κs =
     let h = within c in
-    let s = S (L c) in
-    record { mass = sized (h .mass) tt; stuff = h .stuff; at = sized (h .entry) tt; from = s .pre .0 .other }
+    record { mass = sized (h .mass) tt; stuff = h .stuff; at = sized (h .entry) tt; from = S (L c) .pre .0 .other }
 
 plus-requires : tie.Need-plus-requires Inv-loop μ-loop
-plus-requires c κs = more-fits (L (c .before) .loop .inv .1) (c .sensible .ensures) settersMost (omega arith) tt
+plus-requires c κs = more-fits (L (c .before) .loop .inv .1 .one) (c .sensible .ensures) settersMost (omega arith) tt
 
 sensible-requires-2 : tie.Need-sensible-requires-2 Inv-loop μ-loop
 sensible-requires-2 c κs =
     let h = within (c .before .before) in
-    let s = S (L (c .before .before)) in
-    record { mass = sized (h .mass) tt; stuff = h .stuff; at = s .pre .1; from = sized (h .entry) tt }
+    record { mass = sized (h .mass) tt; stuff = h .stuff; at = S (L (c .before .before)) .pre .1; from = sized (h .entry) tt }
 
 plus-requires-2 : tie.Need-plus-requires-2 Inv-loop μ-loop
-plus-requires-2 c κs = more-fits (L (c .before .before .before) .loop .inv .2) (c .sensible2 .ensures) settersMost (omega arith) tt
-
-add-i : tie.Need-add-i Inv-loop μ-loop
-add-i c = search needs
-
-loop-less : tie.Need-loop-less Inv-loop μ-loop
-loop-less c = search needs
+plus-requires-2 c κs = more-fits (L (c .before .before .before) .loop .inv .1 .two) (c .sensible2 .ensures) settersMost (omega arith) tt
 
 returns : tie.Need-returns Inv-loop μ-loop
 unfolding q3 x5
 returns c =
     let l = c .before in
-    let s = S l in
-    let n = s .args .setters .count .0 in
-    let e : l .loop .i ≡ min n settersMost = omega arith in (
-      λ f e₁ e₂. rw (e₁, e₂) (blocked (brought (s .args .t .0)) setter (lines s) n settersMost (long s) e (l .loop .inv .1)),
-      λ f e₁ e₂. rw (e₁, e₂) (blocked (taken (s .args .highest .0)) setter (lines s) n settersMost (long s) e (l .loop .inv .2)),
-    )
+    let n = S l .args .setters .count .0 in
+    let e : l .loop .i ≡ min n settersMost = omega arith in
+    let sums = ended n settersMost (long (S l)) e (l .loop .inv .1) in
+    (λ f e₁ e₂. rw (e₁, e₂) (sums .0), λ f e₁ e₂. rw (e₁, e₂) (sums .1))
 
 pub setter-heats-spec : {M : Type 1} → statement M
 setter-heats-spec =
     tie.close
-    (tie.spec
-    Inv-loop
-    μ-loop
-    held-requires
-    loop-holds
-    mul-setter
-    array-copy-out-setter
-    sensible-requires
-    plus-requires
-    sensible-requires-2
-    plus-requires-2
-    add-i
-    loop-less
-    loop-again
-    returns)
+    (tie.spec Inv-loop μ-loop (λ c κs. search needs) (λ c. (omega arith, begun)) (λ c. omega arith) (λ c. omega arith)
+    sensible-requires plus-requires sensible-requires-2 plus-requires-2 (λ c. search needs) (λ c. search needs) loop-again returns)

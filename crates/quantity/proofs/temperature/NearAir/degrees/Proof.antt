@@ -1,5 +1,5 @@
 -- What fits the narrow width fits the wide one. Assumes nothing.
-use native.Mathlib.Omega.{arith}
+use borrow.Author.Needs.{needs}
 use mir.Syntax.{w16}
 use mir.Val.{SFits}
 use mir.Facts.{sfits-widen}
@@ -8,13 +8,7 @@ use Rattle.quantity.proofs.temperature.NearAir.degrees.Statement.{state
 use Rattle.quantity.proofs.temperature.NearAir.degrees.Tie as tie
 
 narrow : (c : tie.After-struct-told) → SFits w16 (c .before .before .args .self .0)
-narrow c = record { sfits = omega (arith, c .struct-told .given) }
-
-cast-t2 : tie.Need-cast-t2
-cast-t2 c = cast-fits (narrow c) (sfits-widen tt (narrow c))
-
-returns : tie.Need-returns
-returns c = cast-is (narrow c) (sfits-widen tt (narrow c))
+narrow c = search needs
 
 pub degrees-spec : {M : Type 1} → statement M
-degrees-spec = tie.close (tie.spec cast-t2 returns)
+degrees-spec = tie.close (tie.spec (λ c. cast-fits (narrow c) (sfits-widen tt (narrow c))) (λ c. cast-is (narrow c) (sfits-widen tt (narrow c))))
