@@ -117,7 +117,9 @@ holds [] = true
 holds (c ∷ l) = same (c .computed) (pos (c .said * c .unit)) && holds l
 
 marked : T (holds cases)
-unfolding holds cases nearest nearestℕ tie root rootIn sum specificHeat sensible mixedHeat theoreticalAir dryOfGas vapourOfGas ofGas dryFlue vapourRate vapour dryHeat vapourHeat flueHeat monoxideHeat numbered convection radiation flux wallHeat q1 q2 q3 q5 q8 x1 x2 x3 x5 x7 x8 x9 x10 total x11 waterHeat useful withset
+unfolding holds cases nearest nearestℕ tie root rootIn sum specificHeat sensible mixedHeat theoreticalAir dryOfGas vapourOfGas ofGas dryFlue vapourRate
+    vapour dryHeat vapourHeat flueHeat monoxideHeat numbered convection radiation flux wallHeat
+    q1 q2 q3 q5 q8 x1 x2 x3 x5 x7 x8 x9 x10 total x11 waterHeat useful withset
 marked = tt
 
 -- each fraction of a joule that the formulas name is a whole number of the unit

@@ -108,7 +108,9 @@ module _ (n : ℤ) where
   listed [] s = absurd s
   listed (x ∷ l) s = go (same n (x .number)) refl s (λ q. listed l q)
     where
-      go : (t : Bool) → same n (x .number) ≡ t → (x .number ≡ n) ⊎ Some (λ y. y .number ≡ n) l → (Some (λ y. y .number ≡ n) l → (before n l < length l) × (getD l (before n l) noSection .number ≡ n)) → (cond t 0 (suc (before n l)) < suc (length l)) × (getD (x ∷ l) (cond t 0 (suc (before n l))) noSection .number ≡ n)
+      go : (t : Bool) → same n (x .number) ≡ t → (x .number ≡ n) ⊎ Some (λ y. y .number ≡ n) l →
+          (Some (λ y. y .number ≡ n) l → (before n l < length l) × (getD l (before n l) noSection .number ≡ n)) →
+          (cond t 0 (suc (before n l)) < suc (length l)) × (getD (x ∷ l) (cond t 0 (suc (before n l))) noSection .number ≡ n)
       go true e s rest = (omega arith, is-same x e)
       go false e (inl p) rest = let z : _≡_ {A = Bool} true false = sym (same-is x p) ∙ e in absurd (true-not-false z)
       go false e (inr q) rest = let r = rest q in (omega (arith, r .0), r .1)
@@ -159,7 +161,8 @@ module _ (f : Firing) (few : length (f .sections) ≤ 12) where
     }
 
     -- a wall's cell has the wall's heat
-    own : cellHeat (reading w) (getD (f .sections) (at w / 12) noSection) (getD (f .stages) (at w % 12) noStage) ≡ wallHeat paper (sectionOf f w) (stageOf f w) w
+    own : cellHeat (reading w) (getD (f .sections) (at w / 12) noSection) (getD (f .stages) (at w % 12) noStage) ≡
+        wallHeat paper (sectionOf f w) (stageOf f w) w
     unfolding wallHeat flux convection radiation
     own = rw (row, column, found (w .section) (f .sections))
 
@@ -179,13 +182,16 @@ module _ (f : Firing) (few : length (f .sections) ≤ 12) where
   abbrev Fresh : List Reading → List Wall → Type 0
   Fresh cells ws = Every (λ w. getD cells (at w) unread ≡ unread) ws
 
-  still : (cells : List Reading) {w : Wall} → WallIn f w → (ws : List Wall) → Every (WallIn f) ws → Every (λ x. ¬ ((x .section ≡ w .section) × (x .stage ≡ w .stage))) ws → Fresh cells ws → Fresh (set cells (at w) (reading w)) ws
+  still : (cells : List Reading) {w : Wall} → WallIn f w → (ws : List Wall) → Every (WallIn f) ws →
+      Every (λ x. ¬ ((x .section ≡ w .section) × (x .stage ≡ w .stage))) ws → Fresh cells ws →
+      Fresh (set cells (at w) (reading w)) ws
   still cells q [] p a fresh = tt
   still cells {w} q (x ∷ ws) p a fresh =
       (getD-set-other cells (at w) (at x) (reading w) unread (differ (p .0) q (a .0)) ∙ fresh .0, still cells q ws (p .1) (a .1) (fresh .1))
 
   -- THE WALLS' HEAT IS THE CELLS'
-  pub laid-total : (ws : List Wall) (cells : List Reading) → length cells ≡ 144 → Every (WallIn f) ws → Apart ws → Fresh cells ws → total f (laid (f .sections) cells ws) ≡ total f cells +ℤ sum (λ w. wallHeat paper (sectionOf f w) (stageOf f w) w) ws
+  pub laid-total : (ws : List Wall) (cells : List Reading) → length cells ≡ 144 → Every (WallIn f) ws → Apart ws → Fresh cells ws →
+      total f (laid (f .sections) cells ws) ≡ total f cells +ℤ sum (λ w. wallHeat paper (sectionOf f w) (stageOf f w) w) ws
   unfolding laid sum
   laid-total [] cells long p a fresh = ring (total f cells ∷ []) (v 0) (v 0 ⊕ # 0) tt
   laid-total (w ∷ ws) cells long p a fresh =
@@ -195,14 +201,17 @@ module _ (f : Firing) (few : length (f .sections) ≤ 12) where
       let there : getD more c unread ≡ reading w = getD-set-same cells c (reading w) unread here in
       let none : heatAt f cells c ≡ pos 0 = rw (fresh .0) in
       let mine : heatAt f more c ≡ wallHeat paper (sectionOf f w) (stageOf f w) w = rw there (own (p .0)) in
-      let one : total f more ≡ total f cells +ℤ heatAt f more c = sum-one (heatAt f cells) (heatAt f more) 144 c (inside (p .0)) none (λ j d. rw (getD-set-other cells c j (reading w) unread d)) in
+      let others : (j : ℕ) → j ≢ c → heatAt f more j ≡ heatAt f cells j = λ j d. rw (getD-set-other cells c j (reading w) unread d) in
+      let one : total f more ≡ total f cells +ℤ heatAt f more c = sum-one (heatAt f cells) (heatAt f more) 144 c (inside (p .0)) none others in
       let rest = laid-total ws more (length-set cells c (reading w) ∙ long) (p .1) (a .1) (still cells (p .0) ws (p .1) (a .0) (fresh .1)) in
       let walls = sum (λ x. wallHeat paper (sectionOf f x) (stageOf f x) x) ws in
       rest
       ∙ ap (λ (z : ℤ). z +ℤ walls) (one ∙ ap (λ (z : ℤ). total f cells +ℤ z) mine)
       ∙ ring (total f cells ∷ wallHeat paper (sectionOf f w) (stageOf f w) w ∷ walls ∷ []) (v 0 ⊕ v 1 ⊕ v 2) (v 0 ⊕ (v 1 ⊕ v 2)) tt
 
-  pub laid-lies : (ws : List Wall) (cells : List Reading) → length cells ≡ 144 → Every (WallIn f) ws → ((k : ℕ) → wasRead (getD cells k unread) ≡ true → Lies f k (getD cells k unread)) → (k : ℕ) → wasRead (getD (laid (f .sections) cells ws) k unread) ≡ true → Lies f k (getD (laid (f .sections) cells ws) k unread)
+  pub laid-lies : (ws : List Wall) (cells : List Reading) → length cells ≡ 144 → Every (WallIn f) ws →
+      ((k : ℕ) → wasRead (getD cells k unread) ≡ true → Lies f k (getD cells k unread)) →
+      (k : ℕ) → wasRead (getD (laid (f .sections) cells ws) k unread) ≡ true → Lies f k (getD (laid (f .sections) cells ws) k unread)
   unfolding laid
   laid-lies [] cells long p h = h
   laid-lies (w ∷ ws) cells long p h =
@@ -254,8 +263,11 @@ module _ {readings : List Reading} {x : Sections} {y : Stages} {f : Firing} (see
 
   pub cell-lies : (k : ℕ) → wasRead (getD readings k unread) ≡ true → Lies f k (getD readings k unread)
   cell-lies k =
+      let none : (j : ℕ) → wasRead (getD (replicate 144 unread) j unread) ≡ true → Lies f j (getD (replicate 144 unread) j unread) =
+      λ j e. absurd (true-not-false (sym e ∙ ap wasRead (blank unread 144 j)))
+      in
       subst (λ (l : List Reading). wasRead (getD l k unread) ≡ true → Lies f k (getD l k unread)) (sym (seen .laid))
-      (laid-lies f few (f .walls) (replicate 144 unread) refl (seen .limits .walls) (λ j e. absurd (true-not-false (sym e ∙ ap wasRead (blank unread 144 j)))) k)
+      (laid-lies f few (f .walls) (replicate 144 unread) refl (seen .limits .walls) none k)
 
   section-at : (k : ℕ) → k / 12 < length (f .sections) → getD (f .sections) (k / 12) noSection ≡ section (getD (x .lines) (k / 12) blankSection)
   section-at k h = rw (seen .sections) (shown-at section (x .lines) (x .count .0) (k / 12) blankSection noSection (rw (seen .sections) at h))
@@ -267,8 +279,9 @@ module _ {readings : List Reading} {x : Sections} {y : Stages} {f : Firing} (see
   cell-in k = record {
     lost = λ e.
         let l = cell-lies k e in
+        let here = every-at SectionIn (f .sections) (k / 12) noSection (seen .limits .sections) (l .section) in
         record {
-          wall = record { reading = l .reading; section = subst SectionIn (section-at k (l .section)) (every-at SectionIn (f .sections) (k / 12) noSection (seen .limits .sections) (l .section)) };
+          wall = record { reading = l .reading; section = subst SectionIn (section-at k (l .section)) here };
           stage = subst StageIn (stage-at k (l .stage)) (every-at StageIn (f .stages) (k % 12) noStage (seen .limits .stages) (l .stage));
         };
   }

@@ -12,7 +12,11 @@ mul-t3 c = search needs
 cast-t4 : tie.Need-cast-t4
 cast-t4 c = search casts
 
-narrow : (c : tie.After-struct-told3) → SFits w32 (c .before .before .before .before .before .before .args .at .0)
+-- the start, from where the temperature is read
+abbrev start : tie.After-struct-told3 → tie.Start
+start c = let rise = c .before .before in rise .before .before .before .before
+
+narrow : (c : tie.After-struct-told3) → SFits w32 (start c .args .at .0)
 narrow c = search needs
 
 mul-t5 : tie.Need-mul-t5

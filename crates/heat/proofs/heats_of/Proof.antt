@@ -16,7 +16,7 @@ seen k = record { sections = field k (λ g. g .sections); stages = field k (λ g
 
 -- the start, from where the base temperature is known
 abbrev S : tie.After-degrees → tie.Start
-S c = c .before .before .before .before .before
+S c = let readings = c .before in readings .before .before .before .before
 
 setter-heats-requires : tie.Need-setter-heats-requires
 setter-heats-requires c κs =
@@ -52,18 +52,23 @@ x2-requires c κs =
     let l = own (S d .pre .1) in
     record { water = l .water; ambient = rw (d .degrees .ensures) (l .ambient) }
 
+-- behind the water
+abbrev D₈ : tie.After-x2 → tie.After-degrees
+D₈ c = D₅ (c .before .before .before)
+
 x3-requires : tie.Need-x3-requires
-x3-requires c κs = own (S (D₅ (c .before .before .before)) .pre .1) .clay
+x3-requires c κs = own (S (D₈ c) .pre .1) .clay
 
 x9-requires : tie.Need-x9-requires
-x9-requires c κs = let p = S (D₅ (c .before .before .before .before)) .pre in (p .0, seen (p .1))
+x9-requires c κs = let p = S (D₈ (c .before)) .pre in (p .0, seen (p .1))
 
 water-heat-requires : tie.Need-water-heat-requires
-water-heat-requires c κs = let l = own (S (D₅ (c .before .before .before .before .before)) .pre .1) in record { water = l .water; entry = l .ware .entry }
+water-heat-requires c κs = let l = own (S (D₈ (c .before .before)) .pre .1) in record { water = l .water; entry = l .ware .entry }
 
 returns : tie.Need-returns
 returns c =
-    let w = c .before .before .before .before .before .before .before .before in
+    let taken = c .before .before .before .before in
+    let w = taken .before .before .before .before in
     let x9 = w .before in
     let x3 = x9 .before in
     let x2 = x3 .before in

@@ -36,15 +36,17 @@ radiation-requires c κs =
 
 both-requires : tie.Need-both-requires
 both-requires c κs =
-    let r = c .before .before .before .before .before .args .reading in
+    let first = c .before .before .before in
+    let r = first .before .before .args .reading in
     let second = c .radiation .ensures (wallOf r) (sym (c .before .before .degrees .ensures)) (sym (c .before .degrees2 .ensures)) in
-    fit (within (c .before .before .before .convection .ensures .size) ∷ within (second .size) ∷ []) (raw 0 ⟨+⟩ raw 1) tt
+    fit (within (first .convection .ensures .size) ∷ within (second .size) ∷ []) (raw 0 ⟨+⟩ raw 1) tt
 
 returns : tie.Need-returns
 unfolding flux convection
 returns c =
-    let first = c .before .before .before .before .convection .ensures in
-    let rise = c .before .before .before .before .before .above .ensures in
+    let warm = c .before .before .before .before in
+    let first = warm .convection .ensures in
+    let rise = warm .before .above .ensures in
     λ w e₁ e₂.
     let second = c .before .radiation .ensures w (e₁ ∙ sym (c .before .before .before .degrees .ensures)) (e₂ ∙ sym (c .before .before .degrees2 .ensures)) in
     let is = rw (rise, ← e₁, ← e₂) at (first .is) in

@@ -6,10 +6,17 @@ use Rattle.quantity.proofs.Casts.{widened, widens}
 use Rattle.surface.proofs.lost.Statement.{statement}
 use Rattle.surface.proofs.lost.Tie as tie
 
-area : (c : tie.After-struct-told) → SFits w32 (c .before .before .args .area .0)
+-- the start, from where the area is read, and this place, from where the minutes are
+abbrev start : tie.After-struct-told → tie.Start
+start c = c .before .before
+
+abbrev areaTold : tie.After-struct-told3 → tie.After-struct-told
+areaTold c = c .before .before .before .before
+
+area : (c : tie.After-struct-told) → SFits w32 (start c .args .area .0)
 area c = search needs
 
-minutes : (c : tie.After-struct-told3) → SFits w32 (c .before .before .before .before .before .before .args .minutes .0)
+minutes : (c : tie.After-struct-told3) → SFits w32 (start (areaTold c) .args .minutes .0)
 minutes c = search needs
 
 cast-t4 : tie.Need-cast-t4
@@ -22,13 +29,13 @@ cast-t6 : tie.Need-cast-t6
 cast-t6 c = widens (minutes c)
 
 mul-t7 : tie.Need-mul-t7
-mul-t7 c = rw (widened (area (c .before .before .before .before)), widened (minutes c)) (search needs)
+mul-t7 c = rw (widened (area (areaTold c)), widened (minutes c)) (search needs)
 
 mul-t8 : tie.Need-mul-t8
-mul-t8 c = rw (widened (area (c .before .before .before .before)), widened (minutes c)) (search needs)
+mul-t8 c = rw (widened (area (areaTold c)), widened (minutes c)) (search needs)
 
 returns : tie.Need-returns
-returns c = rw (widened (area (c .before .before .before .before)), widened (minutes c)) (search needs)
+returns c = rw (widened (area (areaTold c)), widened (minutes c)) (search needs)
 
 pub lost-spec : {M : Type 1} → statement M
 lost-spec = tie.close (tie.spec cast-t4 mul-t5 cast-t6 mul-t7 mul-t8 returns)

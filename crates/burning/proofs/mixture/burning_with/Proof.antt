@@ -25,6 +25,19 @@ module _ {a w z : ℤ} (p : SFits w64 a) (q : SFits w64 w) (r : SFits w32 z) (f 
 narrow : (c : tie.After-struct-told) → SFits w32 (c .before .before .args .share .0)
 narrow c = search needs
 
+-- where the share is read, from the air's sum; and the sum before, from each of the other two
+abbrev air : tie.After-struct-told3 → tie.After-struct-told
+air c = c .before .before .before .before
+
+abbrev dry : tie.After-struct-told5 → tie.After-struct-told3
+dry c = c .before .before .before .before
+
+abbrev vapour : tie.After-struct-told7 → tie.After-struct-told5
+vapour c = c .before .before .before .before
+
+abbrev start : tie.After-struct-told7 → tie.Start
+start c = let told = air (dry (vapour c)) in told .before .before
+
 cast-hundredths : tie.Need-cast-hundredths
 cast-hundredths c = widens (narrow c)
 
@@ -32,34 +45,34 @@ mul-t5 : tie.Need-mul-t5
 mul-t5 c = rw (widened (narrow (c .before .before))) (search needs)
 
 add-t6 : tie.Need-add-t6
-add-t6 c = rw (widened (narrow (c .before .before .before .before))) (search needs)
+add-t6 c = rw (widened (narrow (air c))) (search needs)
 
 mul-t7 : tie.Need-mul-t7
-mul-t7 c = rw (widened (narrow (c .before .before .before .before .before .before))) (search needs)
+mul-t7 c = rw (widened (narrow (air (c .before .before)))) (search needs)
 
 add-t8 : tie.Need-add-t8
-add-t8 c = rw (widened (narrow (c .before .before .before .before .before .before .before .before))) (search needs)
+add-t8 c = rw (widened (narrow (air (dry c)))) (search needs)
 
 mul-t9 : tie.Need-mul-t9
-mul-t9 c = rw (widened (narrow (c .before .before .before .before .before .before .before .before .before .before))) (search needs)
+mul-t9 c = rw (widened (narrow (air (dry (c .before .before))))) (search needs)
 
 add-t10 : tie.Need-add-t10
 add-t10 c =
-    let s = c .before .before .before .before .before .before .before .before .before .before .before .before .before .before in
+    let s = start c in
     let a : SFits w64 (s .args .sum .vapour) = search needs in
     let w : SFits w64 (s .args .kind .vapour) = search needs in
-    sum-fits a w (narrow (c .before .before .before .before .before .before .before .before .before .before .before .before)) (s .pre .vapour)
+    sum-fits a w (narrow (air (dry (vapour c)))) (s .pre .vapour)
 
 returns : tie.Need-returns
 returns c =
-    let s = c .before .before .before .before .before .before .before .before .before .before .before .before .before .before in
+    let s = start c in
     let a₁ : SFits w64 (s .args .sum .air) = search needs in
     let a₂ : SFits w64 (s .args .sum .dry) = search needs in
     let a₃ : SFits w64 (s .args .sum .vapour) = search needs in
     let w₁ : SFits w64 (s .args .kind .air) = search needs in
     let w₂ : SFits w64 (s .args .kind .dry) = search needs in
     let w₃ : SFits w64 (s .args .kind .vapour) = search needs in
-    let z = narrow (c .before .before .before .before .before .before .before .before .before .before .before .before) in
+    let z = narrow (air (dry (vapour c))) in
     record { air = sum-is a₁ w₁ z (s .pre .air); dry = sum-is a₂ w₂ z (s .pre .dry); vapour = sum-is a₃ w₃ z (s .pre .vapour) }
 
 pub burning-with-spec : {M : Type 1} → statement M

@@ -6,13 +6,23 @@ use Rattle.quantity.proofs.Casts.{widened, widens}
 use Rattle.solids.proofs.material.along.Statement.{statement}
 use Rattle.solids.proofs.material.along.Tie as tie
 
-start : (c : tie.After-struct-told) → SFits w32 (c .before .before .args .straight .a)
+-- the start and the number before, from where each of the three numbers is read
+abbrev first : tie.After-struct-told → tie.Start
+first c = c .before .before
+
+abbrev second : tie.After-struct-told2 → tie.After-struct-told
+second c = c .before .before
+
+abbrev third : tie.After-struct-told3 → tie.After-struct-told2
+third c = c .before .before
+
+start : (c : tie.After-struct-told) → SFits w32 (first c .args .straight .a)
 start c = search needs
 
-slope : (c : tie.After-struct-told2) → SFits w32 (c .before .before .before .before .args .straight .b)
+slope : (c : tie.After-struct-told2) → SFits w32 (first (second c) .args .straight .b)
 slope c = search needs
 
-degrees : (c : tie.After-struct-told3) → SFits w32 (c .before .before .before .before .before .before .args .at .0)
+degrees : (c : tie.After-struct-told3) → SFits w32 (first (second (third c)) .args .at .0)
 degrees c = search needs
 
 cast-t3 : tie.Need-cast-t3
@@ -28,13 +38,13 @@ cast-t6 : tie.Need-cast-t6
 cast-t6 c = widens (degrees c)
 
 mul-t7 : tie.Need-mul-t7
-mul-t7 c = rw (widened (slope (c .before .before)), widened (degrees c)) (search needs)
+mul-t7 c = rw (widened (slope (third c)), widened (degrees c)) (search needs)
 
 add-t8 : tie.Need-add-t8
-add-t8 c = rw (widened (start (c .before .before .before .before)), widened (slope (c .before .before)), widened (degrees c)) (search needs)
+add-t8 c = rw (widened (start (second (third c))), widened (slope (third c)), widened (degrees c)) (search needs)
 
 returns : tie.Need-returns
-returns c = rw (widened (start (c .before .before .before .before)), widened (slope (c .before .before)), widened (degrees c)) (search needs)
+returns c = rw (widened (start (second (third c))), widened (slope (third c)), widened (degrees c)) (search needs)
 
 pub along-spec : {M : Type 1} → statement M
 along-spec = tie.close (tie.spec cast-t3 mul-t4 cast-t5 cast-t6 mul-t7 add-t8 returns)

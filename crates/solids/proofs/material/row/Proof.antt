@@ -43,23 +43,27 @@ cast-code c = search needs
 
 returns : tie.Need-returns
 returns c =
-    let f : SFits w32 (c .before .before .before .before .before .args .at .0) = search needs in
-    rw (c .before .before .before .match .keys2) (at-most 3 tt (rw (toZ-ofZ f) at (c .if1 .taken)))
+    let code = c .before .before .before in
+    let f : SFits w32 (code .before .before .args .at .0) = search needs in
+    rw (code .match .keys2) (at-most 3 tt (rw (toZ-ofZ f) at (c .if1 .taken)))
 
 returns-2 : tie.Need-returns-2
 returns-2 c =
-    let f : SFits w32 (c .before .before .before .before .before .args .at .0) = search needs in
-    rw (c .before .before .before .match .keys2) (record { small = lit< tt; same = rw (rw (toZ-ofZ f) at (c .if1 .left)) })
+    let code = c .before .before .before in
+    let f : SFits w32 (code .before .before .args .at .0) = search needs in
+    rw (code .match .keys2) (record { small = lit< tt; same = rw (rw (toZ-ofZ f) at (c .if1 .left)) })
 
 returns-3 : tie.Need-returns-3
 returns-3 c =
-    let f : SFits w32 (c .before .before .before .before .before .args .at .0) = search needs in
-    rw (c .before .before .before .match .keys3) (at-most 12 tt (rw (toZ-ofZ f) at (c .if2 .taken)))
+    let code = c .before .before .before in
+    let f : SFits w32 (code .before .before .args .at .0) = search needs in
+    rw (code .match .keys3) (at-most 12 tt (rw (toZ-ofZ f) at (c .if2 .taken)))
 
 returns-4 : tie.Need-returns-4
 returns-4 c =
-    let f : SFits w32 (c .before .before .before .before .before .args .at .0) = search needs in
-    rw (c .before .before .before .match .keys3) (record { small = lit< tt; same = rw (rw (toZ-ofZ f) at (c .if2 .left)) })
+    let code = c .before .before .before in
+    let f : SFits w32 (code .before .before .args .at .0) = search needs in
+    rw (code .match .keys3) (record { small = lit< tt; same = rw (rw (toZ-ofZ f) at (c .if2 .left)) })
 
 returns-5 : tie.Need-returns-5
 returns-5 c =
