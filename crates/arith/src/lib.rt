@@ -21,11 +21,11 @@ pub fn nearest(n: i64, d: i64) -> i64
     }
 }
 
-// A number from which the root of n is sought downward, and not below it. Where n has 41 to 60 digits in base 2 it is Newton's step from
-// a power of 2 near the root, for which a shift divides; for fewer and for more, the greatest root that such an n can have.
+// A number from which the root of n is sought downward, and not below it.
 fn start(n: u64) -> u64
     ensures { λ r. ⌜ (0 < r) × (r < 2 ^ 32) × (n < (r + 1) * (r + 1)) ⌝ }
 {
+    // So written for the compiler: docs/DECISIONS.md, "`floor_root` takes every u64".
     if n < 1_099_511_627_776 {
         return 1_048_575;
     }

@@ -139,6 +139,7 @@ pub fn warmth_of(gas: [Share; 13]) -> Warmth
     requires { ⌜ GasIn (gasOf gas) ⌝ }
     ensures { λ r. ⌜ Warmed (gasOf gas) r ⌝ }
 {
+    // So written for the compiler: docs/DECISIONS.md, "A constant array is bound before a loop".
     let kinds = TABLE_A1;
     let mut sum = Warmth { cold: 0, rise: 0 };
     for i in 0..13 {
@@ -166,6 +167,7 @@ pub fn burning_of(gas: [Share; 13]) -> Burning
     requires { ⌜ GasIn (gasOf gas) ⌝ }
     ensures { λ r. ⌜ Burns (gasOf gas) r ⌝ }
 {
+    // So written for the compiler: docs/DECISIONS.md, "A constant array is bound before a loop".
     let kinds = TABLE_A1;
     let mut sum = Burning {
         air: 0,

@@ -183,7 +183,7 @@ fn stage_heats(burning: Burning, moisture: Moisture, stage: Stage, t: Degrees) -
     FlueHeats { x7, x8 }
 }
 
-// Both heats of all stages, in one loop: each loop over the array costs a copy of it.
+// Both heats of all stages.
 pub fn flue_heats(burning: Burning, moisture: Moisture, stages: Stages, t: Degrees) -> FlueHeats
     requires { ⌜ AllFlueIn (burningOf burning) (moisture .0) (stagesOf stages) (t .0) ⌝ }
     ensures { λ r. ⌜ ((f : Firing) → burningIn f ≡ burningOf burning → f .moisture ≡ moisture .0 → f .stages ≡ stagesOf stages → f .ambient ≡ t .0 →
@@ -195,6 +195,7 @@ pub fn flue_heats(burning: Burning, moisture: Moisture, stages: Stages, t: Degre
     let count = held(stages.count.0, 12);
     let mut x7 = Joules(0);
     let mut x8 = Joules(0);
+    // So written for the compiler: docs/DECISIONS.md, "Two heats in one loop".
     for i in 0..count {
         let stage = stage_heats(burning, moisture, lines[i], t);
         x7 = x7.plus(stage.x7);

@@ -2,8 +2,8 @@
 // table A.2, and the way from exact quotients to whole units.
 pub mod rounding;
 
-// A straight line of table A.2: a + b T, with a in 0.01 and b in 1e-6 kJ/(kg·°C). It is kept in 32 bits, as the whole table is laid out where a line is
-// asked for (docs/DECISIONS.md, "A quantity is kept in 32 bits and counted with in 64").
+// A straight line of table A.2: a + b T, with a in 0.01 and b in 1e-6 kJ/(kg·°C).
+// So written for the compiler: docs/DECISIONS.md, "A quantity is kept in 32 bits and counted with in 64".
 pub struct Straight {
     pub a: i32,
     pub b: i32,

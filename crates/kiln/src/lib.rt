@@ -16,6 +16,7 @@ fn answered(sheet: &[u8], room: &mut [u8]) -> Answer
     ensures { λ _. ⌜ now (room .exit) ≡ bufferOf (now (sheet .entry)) (now (room .entry)) ⌝ }
     ensures { λ _. ⌜ Short (now (sheet .entry)) ⌝ }
 {
+    // So written for the compiler: docs/DECISIONS.md, "`kiln` calls `judged` and not `read`".
     let l = reader::judged(sheet);
     let p = l.place;
     if p.number == 0 {
@@ -23,6 +24,7 @@ fn answered(sheet: &[u8], room: &mut [u8]) -> Answer
         let head = firing.head;
         let heats = heat::balance(firing);
         let figures = report::figures(head.firing, head.product, heats);
+        // So written for the compiler: docs/DECISIONS.md, "The figures are lent to who writes them".
         return reported(&figures, room);
     }
     refused(p.number, p.line)

@@ -25,13 +25,14 @@ pub fn width(z: i64) -> usize
     if z < 0 { n + 1 } else { n }
 }
 
-// How many digits a number has: by products, which are quicker than quotients.
+// How many digits a number has.
 fn digit_count(n: u64) -> usize
     ensures { λ r. ⌜ r ≡ length (digits n) ⌝ }
 {
     let most = n / 10;
     let mut k = 1;
     let mut power = 1;
+    // By products, which are quicker than quotients.
     while power <= most {
         power *= 10;
         k += 1;
@@ -103,8 +104,7 @@ pub fn bytes_at(out: &mut [u8], at: usize, src: &[u8]) -> usize
     at + put_bytes(&mut out[at..], src)
 }
 
-// Puts eight bytes or fewer at the front, and answers how many there are. In so many turns the compiler puts them one by one, where it calls
-// for a copy of any other number.
+// Puts eight bytes or fewer at the front, and answers how many there are.
 fn put_few(out: &mut [u8], src: &[u8]) -> usize
     requires { ⌜ length (now src) ≤ length (now out) ⌝ }
     requires { ⌜ length (now src) ≤ 8 ⌝ }
@@ -112,6 +112,7 @@ fn put_few(out: &mut [u8], src: &[u8]) -> usize
 {
     let mut put = 0;
     let mut turn: usize = 0;
+    // So written for the compiler: docs/DECISIONS.md, "A few bytes are put in eight turns".
     while turn < 8 {
         if put < src.len() {
             out[put] = src[put];

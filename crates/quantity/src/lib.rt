@@ -6,8 +6,8 @@
 // in any case and the first fault. So the fields of a line are checked one after another, with no
 // branch between them. `limits` does their work, and its `proofs/Laws.antt` has what their callers may conclude.
 //
-// What is measured is kept in 32 bits, which hold every limit, since the records of a sheet are copied: who counts with it widens it
-// first (`proofs/Casts.antt`).
+// What is measured is kept in 32 bits: who counts with it widens it first (`proofs/Casts.antt`).
+// So written for the compiler: docs/DECISIONS.md, "A quantity is kept in 32 bits and counted with in 64".
 pub mod gas;
 pub mod heat;
 pub mod kiln;

@@ -148,8 +148,8 @@ impl FlueTemperature {
     }
 }
 
-// The temperature of a section's surface, in tenths of a degree Celsius. A sheet has room for 144 of them, which are copied with it, so it
-// takes the sixteen bits that hold its limits.
+// The temperature of a section's surface, in tenths of a degree Celsius.
+// So written for the compiler: docs/DECISIONS.md, "A quantity is kept in 32 bits and counted with in 64".
 pub struct SurfaceTemperature(pub i16);
 
 pub struct SurfaceTemperatureRead {
@@ -195,7 +195,8 @@ impl SurfaceTemperature {
     }
 }
 
-// The temperature of the air near a section, in tenths of a degree Celsius, in sixteen bits as the surface's.
+// The temperature of the air near a section, in tenths of a degree Celsius.
+// So written for the compiler: docs/DECISIONS.md, "A quantity is kept in 32 bits and counted with in 64".
 pub struct NearAir(pub i16);
 
 pub struct NearAirRead {

@@ -22,9 +22,10 @@ const LINE_MOST: usize = 30;
 // No report is longer.
 const MOST: usize = LINES * LINE_MOST;
 
-// The keys, one after the other, and where each begins: in bytes, since whoever indexes them lays them out (docs/DECISIONS.md, Speed).
+// The keys, one after the other, and where each begins.
 const KEYS: [u8; 59] = *b"firingq1q2q3q5q8inx1x2x3x5x7x8x9x10x11usefulwithseteff1eff2";
 
+// So written for the compiler: docs/DECISIONS.md, "Where a key begins is a byte".
 const STARTS: [u8; LINES + 1] = [
     0,
     6,
@@ -73,12 +74,13 @@ fn length(figures: [i64; LINES]) -> usize
     n
 }
 
-// Whether the report has room, which need not be measured where any report has.
+// Whether the report has room.
 pub fn fits(figures: &[i64; LINES], room: usize) -> bool
     requires { ⌜ Every (SFits w64) (now figures) ⌝ }
     ensures { λ r. ⌜ r ≡ leb (length (linesText (keys shuttle) (now (figures .entry)))) room ⌝ }
     ensures { λ _. ⌜ length (linesText (keys shuttle) (now (figures .entry))) ≤ reportMost ⌝ }
 {
+    // So written for the compiler: docs/DECISIONS.md, "A room for any report is not measured".
     if MOST <= room {
         return true;
     }
@@ -91,6 +93,7 @@ fn write_from(out: &mut [u8], first: usize, figures: &[i64]) -> usize
     requires { ⌜ length (linesText (drop first (keys shuttle)) (now figures)) ≤ length (now out) ⌝ }
     ensures { λ r. ⌜ Written 0 (linesText (drop first (keys shuttle)) (now (figures .entry))) (now (out .entry)) (now (out .exit)) r ⌝ }
 {
+    // So written for the compiler: docs/DECISIONS.md, "A constant array is bound before a loop".
     let keys = KEYS;
     let starts = STARTS;
     let mut start = starts[first] as usize;

@@ -104,7 +104,7 @@ pub struct Section {
 
 // What was measured at a section in a stage, if it was: `read` is 1 then, and else 0.
 pub struct Reading {
-    // So written for the compiler: docs/DECISIONS.md, "A place is four numbers".
+    // A number for the compiler: docs/DECISIONS.md, "A quantity is kept in 32 bits and counted with in 64".
     pub read: u16,
     pub surface: SurfaceTemperature,
     pub air: NearAir,

@@ -31,7 +31,7 @@ pub struct PartHeats {
     pub x10: Joules,
 }
 
-// Both heats of the setters, in one loop: each loop over the array costs a copy of it.
+// Both heats of the setters.
 pub fn setter_heats(setters: Setters, t: Degrees, highest: Degrees) -> SetterHeats
     requires { ⌜ Loads SetterIn (settersOf setters) (t .0) ⌝ }
     requires { ⌜ Within (greatest temperature) (highest .0) ⌝ }
@@ -42,6 +42,7 @@ pub fn setter_heats(setters: Setters, t: Degrees, highest: Degrees) -> SetterHea
     let count = held(setters.count.0, 32);
     let mut q3 = Joules(0);
     let mut x5 = Joules(0);
+    // So written for the compiler: docs/DECISIONS.md, "Two heats in one loop".
     for i in 0..count {
         let setter = lines[i];
         q3 = q3.plus(sensible(setter.mass, setter.stuff, setter.entry, t));
@@ -60,6 +61,7 @@ pub fn part_heats(parts: Parts, t: Degrees) -> PartHeats
     let count = held(parts.count.0, 32);
     let mut q8 = Joules(0);
     let mut x10 = Joules(0);
+    // So written for the compiler: docs/DECISIONS.md, "Two heats in one loop".
     for i in 0..count {
         let part = lines[i];
         q8 = q8.plus(sensible(part.mass, part.stuff, part.before, t));
