@@ -32,7 +32,7 @@ fn digit_count(n: u64) -> usize
     let most = n / 10;
     let mut k = 1;
     let mut power = 1;
-    // By products, which are quicker than quotients.
+    // By products, for the compiler: docs/DECISIONS.md, "Digits are counted by products".
     while power <= most {
         power *= 10;
         k += 1;
