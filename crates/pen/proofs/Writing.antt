@@ -39,10 +39,10 @@ over-over (suc at) a b [] =
 over-over (suc at) a b (x ∷ old) = rw suc-add (ap (λ (l : List ℕ). x ∷ l) (over-over at a b old))
 
 -- a text written at the front of the part that begins at `at`, once that part is put back
-pub in-part : {part : List ℕ} {k : ℕ} (at : ℕ) (text old : List ℕ) → Written 0 text (take (length old - at) (drop at old)) part k →
+pub in-part : {at k : ℕ} {text old part : List ℕ} → Written 0 text (take (length old - at) (drop at old)) part k →
     Written at text old (take at old ++ (part ++ drop (length old - at) (drop at old))) (at + k)
 unfolding over
-in-part at text old w =
+in-part {at} {old = old} w =
     let l = length-drop at old in
     record {
       ends = omega (arith, w .ends);

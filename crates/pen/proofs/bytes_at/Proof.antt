@@ -4,11 +4,6 @@ use Rattle.pen.proofs.Writing.{in-part}
 use Rattle.pen.proofs.bytes_at.Statement.{statement}
 use Rattle.pen.proofs.bytes_at.Tie as tie
 
-returns : tie.Need-returns
-returns c =
-    let a = c .before .before .before .before .before .before .args in
-    in-part (a .at) (a .src .now) (a .out .now) (c .before .before .put-bytes .ensures)
-
 pub bytes-at-spec : {M : Type 1} → statement M
 bytes-at-spec =
     tie.close
@@ -19,4 +14,4 @@ bytes-at-spec =
     (λ c κs. search needs)
     (λ c. search needs)
     (λ c. search needs)
-    returns)
+    (λ c. in-part (c .before .before .put-bytes .ensures)))

@@ -1,14 +1,8 @@
 -- `digits_at` meets its contract: what was written at the front of the part stands at its place in the whole. Assumes nothing.
 use borrow.Author.Needs.{needs}
-use Rattle.text.specs.Decimal.{digits}
 use Rattle.pen.proofs.Writing.{in-part}
 use Rattle.pen.proofs.digits_at.Statement.{statement}
 use Rattle.pen.proofs.digits_at.Tie as tie
-
-returns : tie.Need-returns
-returns c =
-    let a = c .before .before .before .before .before .args in
-    in-part (a .at) (digits (a .n)) (a .out .now) (c .before .before .put-digits .ensures)
 
 pub digits-at-spec : {M : Type 1} → statement M
 digits-at-spec =
@@ -20,4 +14,4 @@ digits-at-spec =
     (λ c κs. search needs)
     (λ c. search needs)
     (λ c. search needs)
-    returns)
+    (λ c. in-part (c .before .before .put-digits .ensures)))

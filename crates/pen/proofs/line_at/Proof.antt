@@ -1,34 +1,34 @@
 -- `line_at` meets its contract: what was written at the front of the part stands at its place in the whole. Assumes nothing.
 use borrow.Author.Needs.{needs}
-use mathlib.Core.Path.{ap}
+use mathlib.Core.Path.{_≡_}
 use native.Mathlib.Omega.{arith}
-use lib.IntN.{ℤ}
 use lib.ListN.{length}
 use mir.Syntax.{w64}
 use mir.ValLaws.{toZ-ofZ}
 use Rattle.text.specs.Decimal.{line}
+use Rattle.text.proofs.Signed.{W}
 use Rattle.pen.proofs.Writing.{in-part}
 use Rattle.pen.proofs.line_at.Statement.{statement}
 use Rattle.pen.proofs.line_at.Tie as tie
 
+-- the line is as long with the number as the call has it
+same : (s : tie.Start) → length (line (s .args .key .now) (W (s .args .z))) ≡ length (line (s .args .key .now) (s .args .z))
+same s = rw (toZ-ofZ w64 (s .args .z) (s .fits .z))
+
 put-line-requires : tie.Need-put-line-requires
-put-line-requires c κs =
-    let s = c .before .before .before in
-    let e = ap (λ (x : ℤ). length (line (s .args .key .now) x)) (toZ-ofZ w64 (s .args .z) (s .fits .z)) in
-    omega (arith, e, s .pre)
+put-line-requires c κs = let start = c .before .before .before in omega (arith, same start, start .pre)
 
 add-result : tie.Need-add-result
 add-result c =
-    let n = c .before .before in
-    let s = n .before .before .before .before in
-    let e = ap (λ (x : ℤ). length (line (s .args .key .now) x)) (toZ-ofZ w64 (s .args .z) (s .fits .z)) in
-    omega (arith, e, s .pre, n .put-line .ensures .ends)
+    let put = c .before .before in
+    let start = put .before .before .before .before in
+    omega (arith, same start, start .pre, put .put-line .ensures .ends)
 
 returns : tie.Need-returns
 returns c =
-    let s = c .before .before .before .before .before .before in
-    in-part (s .args .at) (line (s .args .key .now) (s .args .z)) (s .args .out .now)
-    (rw (toZ-ofZ w64 (s .args .z) (s .fits .z)) at (c .before .before .put-line .ensures))
+    let put = c .before .before in
+    let start = put .before .before .before .before in
+    in-part (rw (toZ-ofZ w64 (start .args .z) (start .fits .z)) at (put .put-line .ensures))
 
 pub line-at-spec : {M : Type 1} → statement M
 line-at-spec =

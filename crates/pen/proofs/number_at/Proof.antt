@@ -12,32 +12,39 @@ use Rattle.pen.proofs.Writing.{next}
 use Rattle.pen.proofs.number_at.Statement.{statement}
 use Rattle.pen.proofs.number_at.Tie as tie
 
-minus : (c : tie.Then1) → decimal (c .before .before .before .args .z) ≡ bytes "-" ++ digits (c .before .magnitude .result)
-minus c = minus-text _ _ (c .before .before .before .fits .z) (c .before .magnitude .ensures) (c .if1 .taken)
+abbrev start : tie.After-magnitude → tie.Start
+start c = c .before .before
 
-plain : (c : tie.Else1) → decimal (c .before .before .before .args .z) ≡ digits (c .before .magnitude .result)
-plain c = plain-text _ _ (c .before .before .before .fits .z) (c .before .magnitude .ensures) (c .if1 .left)
+minus : (c : tie.Then1) → decimal (start (c .before) .args .z) ≡ bytes "-" ++ digits (c .before .magnitude .result)
+minus c = minus-text _ _ (start (c .before) .fits .z) (c .before .magnitude .ensures) (c .if1 .taken)
+
+plain : (c : tie.Else1) → decimal (start (c .before) .args .z) ≡ digits (c .before .magnitude .result)
+plain c = plain-text _ _ (start (c .before) .fits .z) (c .before .magnitude .ensures) (c .if1 .left)
 
 bytes-at-requires : tie.Need-bytes-at-requires
-bytes-at-requires c κs = omega (arith, ap length (minus (c .before .before)), c .before .before .before .before .before .pre)
+bytes-at-requires c κs = let below = c .before .before in omega (arith, ap length (minus below), start (below .before) .pre)
 
 digits-at-requires : tie.Need-digits-at-requires
 digits-at-requires c κs =
-    let t = c .before .before .before .before .before .before in
-    let b = c .before .before .before .bytes-at in
-    omega (arith, ap length (minus t), t .before .before .before .pre, b .ensures .ends, b .kept .0)
+    let sign = c .before .before .before in
+    let below = sign .before .before .before in
+    omega (arith, ap length (minus below), start (below .before) .pre, sign .bytes-at .ensures .ends, sign .bytes-at .kept .0)
 
 returns : tie.Need-returns
 returns c =
-    let d = c .before .before in
-    let b = d .before .before .before .before in
-    rw (minus (b .before .before .before)) (next (b .bytes-at .ensures) (d .digits-at .ensures))
+    let put = c .before .before in
+    let sign = put .before .before .before .before in
+    let below = sign .before .before .before in
+    rw (minus below) (next (sign .bytes-at .ensures) (put .digits-at .ensures))
 
 digits-at-requires-2 : tie.Need-digits-at-requires-2
-digits-at-requires-2 c κs = omega (arith, ap length (plain (c .before)), c .before .before .before .before .pre)
+digits-at-requires-2 c κs = let above = c .before in omega (arith, ap length (plain above), start (above .before) .pre)
 
 returns-2 : tie.Need-returns-2
-returns-2 c = rw (plain (c .before .before .before .before)) (c .before .before .digits-at2 .ensures)
+returns-2 c =
+    let put = c .before .before in
+    let above = put .before .before in
+    rw (plain above) (put .digits-at2 .ensures)
 
 pub number-at-spec : {M : Type 1} → statement M
 number-at-spec =

@@ -18,16 +18,19 @@ Inv-loop out₀ src i₀ out i = (i ≤ length src) × Written 0 (take i src) ou
 abbrev μ-loop : tie.MeasureT-loop
 μ-loop out₀ src i₀ out i = length src - i
 
+abbrev start : tie.At-loop Inv-loop μ-loop → tie.Start Inv-loop μ-loop
+start c = c .before .before .before .before
+
 loop-holds : tie.Need-loop-holds Inv-loop μ-loop
 loop-holds c = (omega arith, begun 0 (c .before .before .before .args .out .now), refl)
 
 loop-again : tie.Need-loop-again Inv-loop μ-loop
 loop-again c =
-    let l = c .before .before .loop in
-    let a = c .before .before .before .before .before .before .args in
-    let b = getD (a .src .now) (l .i) 0 in
-    let e : take (l .i + 1) (a .src .now) ≡ take (l .i) (a .src .now) ++ (b ∷ []) =
-    rw add-one (take-suc (a .src .now) (l .i) 0 (c .before .loop-test .taken)) in (
+    let turn = c .before .before in
+    let l = turn .loop in
+    let src = start turn .args .src .now in
+    let b = getD src (l .i) 0 in
+    let e : take (l .i + 1) src ≡ take (l .i) src ++ (b ∷ []) = rw add-one (take-suc src (l .i) 0 (c .before .loop-test .taken)) in (
       omega arith,
       rw e (next (l .inv .1) (one-byte (l .i) b (l .out) (omega arith))),
       simp length-set (l .inv .2),
@@ -36,7 +39,7 @@ loop-again c =
 returns-2 : tie.Need-returns-2 Inv-loop μ-loop
 returns-2 c =
     let l = c .before .loop in
-    let src = c .before .before .before .before .before .args .src .now in
+    let src = start (c .before) .args .src .now in
     let e : take (l .i) src ≡ src = take-all (l .i) src (omega arith) in
     rw e at (l .inv .1)
 
