@@ -21,31 +21,38 @@ use Rattle.text.proofs.Signed.{W, Turned, turned}
 use Rattle.text.proofs.read.number_within.Statement.{statement}
 use Rattle.text.proofs.read.number_within.Tie as tie
 
-signed : (c : tie.Then1) → begins (bytes "-") (c .before .before .before .before .args .f .now) ≡ true
+-- the places that others are reached from: the start, and where the sign is looked for
+abbrev start : tie.After-starts → tie.Start
+start c = c .before .before .before
+
+abbrev looked : tie.After-unsigned → tie.After-starts
+looked c = c .before .before .before
+
+signed : (c : tie.Then1) → begins (bytes "-") (start (c .before) .args .f .now) ≡ true
 signed c = sym (c .before .starts .ensures) ∙ c .if1 .taken
 
-some : (c : tie.Then1) → 1 ≤ length (c .before .before .before .before .args .f .now)
-some c = omega (arith, ap length (begins-key (bytes "-") (c .before .before .before .before .args .f .now) (signed c)))
+some : (c : tie.Then1) → 1 ≤ length (start (c .before) .args .f .now)
+some c = omega (arith, ap length (begins-key (bytes "-") (start (c .before) .args .f .now) (signed c)))
 
 -- what stands behind the sign, and what it makes of the whole
-behind : (c : tie.After-unsigned) → c .unsigned .result ≡ unsigned (c .before .before .before .before .before .before .args .most)
-    (drop 1 (c .before .before .before .before .before .before .args .f .now))
+behind : (c : tie.After-unsigned) → c .unsigned .result ≡ unsigned (start (looked c) .args .most) (drop 1 (start (looked c) .args .f .now))
 behind c =
-    let a = c .before .before .before .before .before .before .args in
+    let a = start (looked c) .args in
     let f = a .f .now in
     c .unsigned .ensures ∙ ap (unsigned (a .most)) (take-all (length f - 1) (drop 1 f) (le-of-eq (length-drop 1 f)))
 
-whole : (c : tie.After-unsigned) → numberWithin (c .before .before .before .before .before .before .args .most)
-    (c .before .before .before .before .before .before .args .f .now) ≡ negated (c .unsigned .result)
+whole : (c : tie.After-unsigned) → numberWithin (start (looked c) .args .most) (start (looked c) .args .f .now) ≡ negated (c .unsigned .result)
 unfolding numberWithin
-whole c = rw (signed (c .before .before), behind c)
+whole c = rw (signed (c .before .before)) (ap negated (sym (behind c)))
 
 -- a number read behind the sign has an opposite
 value : (c : tie.After-z) → Turned (c .z .given .0 .0)
 value c =
-    let s = c .before .before .before .before .before .before .before .before in
-    let u = unsigned-text (s .args .most) (drop 1 (s .args .f .now)) (c .z .given .0 .0) (sym (behind (c .before .before)) ∙ c .z .given .1) in
-    turned (c .z .given .0 .0) (u .0) (u .1) (omega (arith, below-most (u .0) (s .args .most) (u .3) (s .pre)))
+    let read = c .before .before in
+    let s = start (looked read) in
+    let z = c .z .given .0 .0 in
+    let u = unsigned-text (s .args .most) (drop 1 (s .args .f .now)) z (sym (behind read) ∙ c .z .given .1) in
+    turned z (u .0) (u .1) (omega (arith, below-most (u .0) (s .args .most) (u .3) (s .pre)))
 
 sub-t16 : tie.Need-sub-t16
 sub-t16 c =
@@ -72,8 +79,8 @@ returns-3 c = sym (whole (c .before .before) ∙ ap negated (c .enum-told .given
 returns-4 : tie.Need-returns-4
 unfolding numberWithin
 returns-4 c =
-    let plain : begins (bytes "-") (c .before .before .before .before .before .args .f .now) ≡ false =
-    sym (c .before .before .starts .ensures) ∙ c .before .if1 .left in
+    let looked = c .before .before in
+    let plain : begins (bytes "-") (start looked .args .f .now) ≡ false = sym (looked .starts .ensures) ∙ c .before .if1 .left in
     rw plain (c .unsigned2 .ensures)
 
 pub number-within-spec : {M : Type 1} → statement M

@@ -23,6 +23,9 @@ Inv-loop f most n₀ i₀ n i = (digitsRead n (drop i f) ≡ unsigned most f) ×
 abbrev μ-loop : tie.MeasureT-loop
 μ-loop f most n₀ i₀ n i = length f - i
 
+abbrev start : tie.Else2 Inv-loop μ-loop → tie.Start Inv-loop μ-loop
+start c = c .before .before
+
 returns : tie.Need-returns Inv-loop μ-loop
 unfolding unsigned
 returns c =
@@ -33,20 +36,21 @@ returns c =
     (λ w. rw (lt-ltb 0 (length f) (omega arith), lt-leb (length f) (a .most) (ltb-true _ _ (w .1 .taken))))
     (c .if1 .came)
 
-short : (c : tie.Else2 Inv-loop μ-loop) → length (c .before .before .args .f .now) ≤ c .before .before .args .most
+short : (c : tie.Else2 Inv-loop μ-loop) → length (start c .args .f .now) ≤ start c .args .most
 short c = ltb-false _ _ (c .if2 .left)
 
 returns-2 : tie.Need-returns-2 Inv-loop μ-loop
 unfolding unsigned
 returns-2 c =
-    let s = c .before .before .before .before .before in
+    let few = c .before .before .before in
+    let s = start few in
     let f = s .args .f .now in
     let zero : eqb (getD f 0 0) 48 ≡ true = c .if4 .taken in
-    rw (lt-ltb 0 (length f) (omega arith), le-leb (length f) (s .args .most) (short (c .before .before .before)), lt-ltb 1 (length f) (omega arith), zero)
+    rw (lt-ltb 0 (length f) (omega arith), le-leb (length f) (s .args .most) (short few), lt-ltb 1 (length f) (omega arith), zero)
 
-lead : (c : tie.Joined3 Inv-loop μ-loop) → leadingZero (c .before .before .before .args .f .now) ≡ false
+lead : (c : tie.Joined3 Inv-loop μ-loop) → leadingZero (start (c .before) .args .f .now) ≡ false
 lead c =
-    let f = c .before .before .before .args .f .now in
+    let f = start (c .before) .args .f .now in
     ⊎-elim
     (λ w. let other : eqb (getD f 0 0) 48 ≡ false = w .2 .left in rw (other, and-false))
     (λ w. rw (le-ltb 1 (length f) (w .left)))
@@ -55,7 +59,7 @@ lead c =
 loop-holds : tie.Need-loop-holds Inv-loop μ-loop
 unfolding unsigned
 loop-holds c =
-    let s = c .before .before .before in
+    let s = start (c .before) in
     let f = s .args .f .now in (
       rw (lt-ltb 0 (length f) (omega arith), le-leb (length f) (s .args .most) (short (c .before)), lead c),
       omega arith,
