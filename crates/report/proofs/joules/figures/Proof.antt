@@ -31,6 +31,13 @@ Inv-loop product heats out₀ i₀ out i =
 abbrev μ-loop : tie.MeasureT-loop
 μ-loop product heats out₀ i₀ out i = heatCount shuttle - i
 
+-- the places that others are reached from: the start, and the end of the loop
+abbrev start : tie.At-loop Inv-loop μ-loop → tie.Start Inv-loop μ-loop
+start c = c .before .before .before
+
+abbrev done : tie.After-of-fuel Inv-loop μ-loop → tie.At-loop Inv-loop μ-loop
+done c = c .before .before .before .before
+
 narrow : (c : tie.After-struct-told Inv-loop μ-loop) → SFits w32 (c .before .before .args .number .0)
 narrow c = search needs
 
@@ -38,7 +45,7 @@ loop-holds : tie.Need-loop-holds Inv-loop μ-loop
 loop-holds c = (omega arith, omega arith, omega arith, λ f n p e. e)
 
 per-tonne-requires : tie.Need-per-tonne-requires Inv-loop μ-loop
-per-tonne-requires c κs = per-tonne-can (c .before .before .before .before .before .pre .1) (c .before .before .loop .i) (omega arith)
+per-tonne-requires c κs = let turn = c .before .before in per-tonne-can (start turn .pre .1) (turn .loop .i) (omega arith)
 
 loop-again : tie.Need-loop-again Inv-loop μ-loop
 loop-again c =
@@ -52,22 +59,21 @@ loop-again c =
     )
 
 of-fuel-requires : tie.Need-of-fuel-requires Inv-loop μ-loop
-of-fuel-requires c κs = of-fuel-can (c .before .before .before .before .before .before .pre .1) useful-at (lit< tt)
+of-fuel-requires c κs = of-fuel-can (start (c .before .before .before) .pre .1) useful-at (lit< tt)
 
 of-fuel-requires-2 : tie.Need-of-fuel-requires-2 Inv-loop μ-loop
-of-fuel-requires-2 c κs = of-fuel-can (c .before .before .before .before .before .before .before .before .before .pre .1) withset-at (lit< tt)
+of-fuel-requires-2 c κs = of-fuel-can (start (done (c .before .before)) .pre .1) withset-at (lit< tt)
 
 returns : tie.Need-returns Inv-loop μ-loop
 returns c =
     let a = c .before .before .before in
-    let l = a .before .before .before .before .loop in
-    let t = a .before .before .before .before .before in
+    let l = done a .loop in
     let x = toZ w64 (ofZ w64 (a .of-fuel .result)) in
     let y = toZ w64 (ofZ w64 (c .of-fuel2 .result)) in
     λ f p.
     let long = figures-long f in
     let end : l .i ≡ heatCount shuttle = omega arith in
-    let first = filled 0 (pos 0 ∷ []) (figures f) _ (lit< tt) (omega (arith, long)) refl (widened (narrow t) ∙ number-is p) in
+    let first = filled 0 (pos 0 ∷ []) (figures f) _ (lit< tt) (omega (arith, long)) refl (widened (narrow (done a .before)) ∙ number-is p) in
     let heats = subst (λ (i : ℕ). take (i + 1) (l .out) ≡ take (i + 1) (figures f)) end (l .inv .3 f _ p first) in
     let eff1 = filled eff1-at (l .out) (figures f) x (omega arith) (omega (arith, long)) heats
     (toZ-ofZ (sfits-of (a .of-fuel .ok)) ∙ a .of-fuel .ensures ∙ eff1-is p) in

@@ -29,8 +29,9 @@ same s = text (s .args .t2) (omega arith)
 
 returns : tie.Need-returns
 returns c =
-    let s = c .before .before .before .before .before .before in
-    let w = c .before .before .write-from in
+    let put = c .before .before in
+    let s = put .before .before .before .before in
+    let w = put .write-from in
     let lines = subst (λ (t : List ℕ). Written 0 t (s .args .out .now) (w .last .0) (w .result)) (same s) (w .ensures) in
     (lines, omega (arith, lines .ends, most s))
 
