@@ -1,11 +1,20 @@
-// Reads a sheet on standard input and prints its report, or `refused=NUMBER,LINE`.
-use libc::STDIN_FILENO;
+// Reads a sheet on standard input and prints its report, or `refused=NUMBER,LINE`. Where standard input cannot be read to its end there is no
+// sheet to answer: nothing is printed, and standard error says so. It also says where what was printed could not be written. The exit status
+// says neither, for a program of this language has none but 0.
+use libc::STDERR_FILENO;
 use libc::STDOUT_FILENO;
 
 fn main() {
     let mut room = [0u8; 16385];
-    let n = io::read_full(STDIN_FILENO, &mut room);
+    let sheet = streams::read_all(&mut room);
+    if sheet.failed {
+        io::write_all(STDERR_FILENO, b"balance: the sheet could not be read\n");
+        return;
+    }
     let mut text = [0u8; 1024];
-    let k = kiln::print(&room, n, &mut text);
-    io::write_all(STDOUT_FILENO, &text[..k]);
+    let k = kiln::print(&room, sheet.length, &mut text);
+    if io::write_all(STDOUT_FILENO, &text[..k]) {
+        return;
+    }
+    io::write_all(STDERR_FILENO, b"balance: the answer could not be written\n");
 }

@@ -1,14 +1,22 @@
-// Reads a sheet on standard input and prints its heats in joules, or `refused=NUMBER,LINE`.
+// Reads a sheet on standard input and prints its heats in joules, or `refused=NUMBER,LINE`. Where standard input cannot be read to its end
+// nothing is printed, and standard error says so, as it does where what was printed could not be written.
 mod program;
 
-use libc::STDIN_FILENO;
+use libc::STDERR_FILENO;
 use libc::STDOUT_FILENO;
 use program::print;
 
 fn main() {
     let mut room = [0u8; 16385];
-    let n = io::read_full(STDIN_FILENO, &mut room);
+    let sheet = streams::read_all(&mut room);
+    if sheet.failed {
+        io::write_all(STDERR_FILENO, b"joules: the sheet could not be read\n");
+        return;
+    }
     let mut text = [0u8; 1024];
-    let k = print(&room, n, &mut text);
-    io::write_all(STDOUT_FILENO, &text[..k]);
+    let k = print(&room, sheet.length, &mut text);
+    if io::write_all(STDOUT_FILENO, &text[..k]) {
+        return;
+    }
+    io::write_all(STDERR_FILENO, b"joules: the answer could not be written\n");
 }
