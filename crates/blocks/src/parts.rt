@@ -57,7 +57,7 @@ pub struct PartTaken {
 
 // A part of the kiln body from the five numbers of its line.
 pub fn part_of(v: [Number; 13]) -> PartTaken
-    ensures { λ r. ⌜ Taken (partLine .fields) (from 0 5 v) (r .fault) (part (r .part) ≡ partOf (plain (from 0 5 v))) ⌝ }
+    ensures { λ r. ⌜ Taken (partLine .fields) (from 0 5 v) (r .fault) (λ zs. part (r .part) ≡ partOf (plain zs)) ⌝ }
 {
     let n0 = v[0];
     let n1 = v[1];

@@ -57,7 +57,7 @@ pub struct SetterTaken {
 
 // A setter from the four numbers of its line.
 pub fn setter_of(v: [Number; 13]) -> SetterTaken
-    ensures { λ r. ⌜ Taken (setterLine .fields) (from 0 4 v) (r .fault) (setter (r .setter) ≡ setterOf (plain (from 0 4 v))) ⌝ }
+    ensures { λ r. ⌜ Taken (setterLine .fields) (from 0 4 v) (r .fault) (λ zs. setter (r .setter) ≡ setterOf (plain zs)) ⌝ }
 {
     let n0 = v[0];
     let n1 = v[1];

@@ -55,7 +55,7 @@ pub struct StageTaken {
 
 // A stage from the five numbers of its line.
 pub fn stage_of(v: [Number; 13]) -> StageTaken
-    ensures { λ r. ⌜ Taken (stageLine .fields) (from 0 5 v) (r .fault) (stage (r .stage) ≡ stageOf (plain (from 0 5 v))) ⌝ }
+    ensures { λ r. ⌜ Taken (stageLine .fields) (from 0 5 v) (r .fault) (λ zs. stage (r .stage) ≡ stageOf (plain zs)) ⌝ }
 {
     let n0 = v[0];
     let n1 = v[1];

@@ -1,18 +1,15 @@
 -- Checking constructors in a row: a line's quantities and the fault that each passes on. Assumes nothing.
 use Prim.Native.Nat.{ℕ, zero, suc, _+_}
-use mathlib.Core.Path.{_≡_, refl, ap, ap₂, _∙_, subst}
+use mathlib.Core.Path.{_≡_, refl, sym, ap, ap₂, _∙_, subst}
 use mathlib.Core.List.{List, [], _∷_, _++_}
 use native.Mathlib.Omega.{arith}
 use lib.ListN.{length, getD, replicate}
-use native.Mathlib.Nat.{zero-lt-suc}
-use lib.Dec.{lt→ltb}
 use lib.IntN.{ℤ, pos}
 use Rattle.limits.specs.declared.Number.{Number}
-use Rattle.limits.specs.Checked.{Measured}
-use Rattle.limits.proofs.Laws.{inside}
+use Rattle.limits.specs.Checked.{Measured, inRange}
 use Rattle.document.specs.Schema.{Field, Row, plain}
-use Rattle.due.specs.Taking.{from, Taken}
-use Rattle.due.proofs.Ranges.{chained, chained-first}
+use Rattle.due.specs.Taking.{from, heldTo, Taken}
+use Rattle.due.proofs.Ranges.{chained, chained-first, held-clean}
 
 -- numbers zs checked against fields fs, counted from i, with a fault before and a fault after them; what is handed out
 infixr 5 _&_
@@ -27,20 +24,22 @@ unfolding chained
 chain-fault done = refl
 chain-fault (_&_ {i = i} {fs = fs} {zs = zs} m c) = chain-fault c ∙ ap (λ (n : ℕ). chained n (suc i) fs zs) (m .first)
 
-chain-same : {fault i end : ℕ} {fs : List Field} {zs vs : List ℤ} → Chain fault (suc i) fs zs vs end → end ≡ 0 → (fault ≡ 0) × (vs ≡ zs)
-chain-same done e = (e, refl)
-chain-same {i} (m & c) e =
-    let r = chain-same c e in
-    let a = inside m (lt→ltb 0 (suc i) (zero-lt-suc i)) (r .0) in
-    (a .clean, ap₂ _∷_ (a .same) (r .1))
+chain-held : {fault i end : ℕ} {fs : List Field} {zs vs : List ℤ} → Chain fault i fs zs vs end → vs ≡ heldTo fs zs
+unfolding heldTo inRange
+chain-held done = refl
+chain-held (m & c) = ap₂ _∷_ (m .amount) (chain-held c)
 
 -- THE QUANTITIES OF A LINE, by the constructors' contracts
-pub taken : {fs : List Field} {zs vs : List ℤ} {end : ℕ} {Shown : Type 0} → Chain 0 1 fs zs vs end → (vs ≡ zs → Shown) → Taken fs zs end Shown
-taken {fs} {zs} c f = record { first = chain-fault c ∙ chained-first 0 fs zs; shown = λ e. f (chain-same c e .1) }
+pub taken : {fs : List Field} {zs vs : List ℤ} {end : ℕ} {A : Type 0} (of : List ℤ → A) → Chain 0 1 fs zs vs end → Taken fs zs end (λ l. of vs ≡ of l)
+taken {fs} {zs} of c = record { first = chain-fault c ∙ chained-first 0 fs zs; shown = ap of (chain-held c) }
 
 pub taken-as : {A : Type 0} {fs : List Field} {zs vs : List ℤ} {end : ℕ} (of : Row → A) → Chain 0 1 fs zs vs end
-    → Taken fs zs end (of (plain vs) ≡ of (plain zs))
-taken-as of c = taken c (λ same. ap (λ (l : List ℤ). of (plain l)) same)
+    → Taken fs zs end (λ l. of (plain vs) ≡ of (plain l))
+taken-as of = taken (λ l. of (plain l))
+
+-- and where there is no fault they are the line's numbers
+pub taken-clean : {fs : List Field} {zs : List ℤ} {fault : ℕ} {Shown : List ℤ → Type 0} → Taken fs zs fault Shown → fault ≡ 0 → Shown zs
+taken-clean {fs} {zs} {Shown = Shown} t e = subst Shown (held-clean 0 fs zs (sym (t .first) ∙ e)) (t .shown)
 
 -- one field more at the end
 pub chain-snoc : {least greatest z value : ℤ} {fault i j end after : ℕ} {fs : List Field} {zs vs : List ℤ} → Chain fault i fs zs vs end

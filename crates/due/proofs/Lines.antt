@@ -26,6 +26,7 @@ use Rattle.due.specs.Taking.{from, faultOf, Taken}
 use Rattle.due.specs.Form.{formOf}
 use Rattle.due.proofs.Places.{not-both, refused-bad, after-weaker, after-left}
 use Rattle.due.proofs.Ranges.{fault-is, outside-some}
+use Rattle.due.proofs.Chain.{taken-clean}
 
 -- ---- a line in form
 -- what a line in form is: its numbers as many as its fields, and at least its LF long
@@ -170,20 +171,20 @@ rule-as {s} {p} {q} {P} l rule rule′ e = subst (λ (x : Row → Option Refusal
 -- ---- THE QUANTITIES OF A LINE: its form was read, its quantities taken, and the first fault tested
 pub line-after : (s : List ℕ) (p q : Place) (l : Line) (v : List Number) (fault : ℕ) (Shown : List ℤ → Type 0)
     → After s p (formOf l) q (λ row. from 0 (length (l .fields)) v ≡ row .numbers)
-    → Taken (l .fields) (from 0 (length (l .fields)) v) fault (Shown (from 0 (length (l .fields)) v))
+    → Taken (l .fields) (from 0 (length (l .fields)) v) fault Shown
     → After s p (readLine l (λ row. none)) (ranged (p .line) q fault) (λ row. Shown (row .numbers))
 line-after s p q l v fault Shown a t =
     let zs = from 0 (length (l .fields)) v in
     let P : Row → Type 0 = λ row. zs ≡ row .numbers in
     after-weaker s p (ranged (p .line) q fault) (readLine l (λ row. none)) (InRange s p q l P fault) (λ row. Shown (row .numbers))
-    (λ row h. subst Shown (h .0) (t .shown (t .first ∙ fault-is 1 (l .fields) zs
+    (λ row h. subst Shown (h .0) (taken-clean t (t .first ∙ fault-is 1 (l .fields) zs
     ∙ ap (λ (o : Option ℕ). on o 0 (λ i. i)) (ap (λ (x : List ℤ). outsideOf 1 (l .fields) x) (h .0) ∙ h .1))))
     (ranged-after s p q l P fault (λ row e n. t .first ∙ ap (λ (x : List ℤ). faultOf 1 (l .fields) x) e) a)
 
 -- and then its rule
 pub ruled-line : {s : List ℕ} {p q q₁ q₂ : Place} {fault : ℕ} (l : Line) (v : List Number) (Shown : List ℤ → Type 0)
     (rule : Row → Option Refusal) (broken : Bool) (why : Refusal) → After s p (formOf l) q (λ row. from 0 (length (l .fields)) v ≡ row .numbers)
-    → Taken (l .fields) (from 0 (length (l .fields)) v) fault (Shown (from 0 (length (l .fields)) v)) → q₁ ≡ ranged (p .line) q fault
+    → Taken (l .fields) (from 0 (length (l .fields)) v) fault Shown → q₁ ≡ ranged (p .line) q fault
     → ((row : Row) → Shown (row .numbers) → rule row ≡ when broken why) → q₂ ≡ ruled (p .line) q₁ broken why
     → After s p (readLine l rule) q₂ (λ row. Shown (row .numbers))
 ruled-line {s} {p} {q} {q₁} {fault = fault} l v Shown rule broken why a t e f g =

@@ -1,6 +1,6 @@
 -- The line that is due, by its form and its one quantity, or its one number. Assumes nothing.
 use Prim.Native.Nat.{ℕ}
-use mathlib.Core.Path.{_≡_, ap}
+use mathlib.Core.Path.{_≡_}
 use mathlib.Core.List.{List, [], _∷_}
 use mathlib.Core.Option.{none}
 use lib.Dec.{T, leb}
@@ -24,7 +24,7 @@ pub alone : {s : List ℕ} {p q q′ : Place} {fault : ℕ} (l : Line) (v : List
     → Chain 0 1 (l .fields) (from 0 (length (l .fields)) v) (x ∷ []) fault → q′ ≡ ranged (p .line) q fault
     → After s p (readLine l (λ row. none)) q′ (λ row. x ≡ getD (row .numbers) 0 (pos 0))
 alone {s} {p} {q} {fault = fault} l v x a c e =
-    rw e (line-after s p q l v fault (λ zs. x ≡ getD zs 0 (pos 0)) a (taken c (λ same. ap (λ (t : List ℤ). getD t 0 (pos 0)) same)))
+    rw e (line-after s p q l v fault (λ zs. x ≡ getD zs 0 (pos 0)) a (taken (λ (t : List ℤ). getD t 0 (pos 0)) c))
 
 pub counted : {s : List ℕ} {p q q′ : Place} {fault : ℕ} (key : List ℕ) (a b : ℕ) (v : List Number) (count : ℕ)
     → After s p (formOf (countLine key a b)) q (λ row. from 0 1 v ≡ row .numbers)

@@ -1,16 +1,16 @@
 -- A line's quantities are checked one after the other, each passing the first fault on: what the last one says is the first field
 -- outside its range. Assumes nothing.
 use Prim.Native.Nat.{ℕ, suc, _<_}
-use mathlib.Core.Path.{_≡_, refl}
+use mathlib.Core.Path.{_≡_, refl, ap}
 use mathlib.Core.Bool.{Bool, true, false, cond}
 use mathlib.Core.List.{List, [], _∷_}
 use mathlib.Core.Option.{some}
 use native.Mathlib.Omega.{arith}
 use lib.Dec.{eqb·suc-zero}
 use lib.IntN.{ℤ}
-use Rattle.limits.specs.Checked.{inRange, firstFault}
+use Rattle.limits.specs.Checked.{inRange, firstFault, Measured}
 use Rattle.document.specs.Schema.{Field, within, outsideOf, on}
-use Rattle.due.specs.Taking.{faultOf}
+use Rattle.due.specs.Taking.{faultOf, heldTo}
 
 -- the fault after some fields, with the fault before them
 unfoldable pub chained : ℕ → ℕ → List Field → List ℤ → ℕ
@@ -38,6 +38,22 @@ chained-first i (f ∷ fs) [] = refl
 chained-first i (f ∷ fs) (z ∷ zs) =
     by-test (λ t. chained (cond t 0 (suc i)) (suc (suc i)) fs zs ≡ cond t (faultOf (suc (suc i)) fs zs) (suc i))
     (chained-first (suc i) fs zs) (chained-kept i (suc (suc i)) fs zs) (within f z)
+
+-- where no field is outside its range, the numbers are held as they are
+pub held-clean : (i : ℕ) (fs : List Field) (zs : List ℤ) → faultOf (suc i) fs zs ≡ 0 → heldTo fs zs ≡ zs
+unfolding faultOf heldTo
+held-clean i [] zs e = refl
+held-clean i (f ∷ fs) [] e = refl
+held-clean i (f ∷ fs) (z ∷ zs) e =
+    by-test (λ t. within f z ≡ t → heldTo (f ∷ fs) (z ∷ zs) ≡ z ∷ zs)
+    (λ q. rw q (ap (λ (l : List ℤ). z ∷ l) (held-clean (suc i) fs zs (rw q at e)))) (λ q. absurd (let k : suc i ≡ 0 = rw q at e in omega arith))
+    (within f z) refl
+
+-- what is held is what a constructor hands out, and so within the limits
+pub held-measured : (f : Field) (z x : ℤ) → x ≡ cond (within f z) z (f .least)
+    → Measured (f .least) (f .greatest) z 0 1 x (cond (inRange (f .least) (f .greatest) z) 0 (firstFault 0 1))
+unfolding inRange
+held-measured f z x e = record { amount = e; first = refl }
 
 -- the first field outside its range, by both definitions
 pub fault-is : (i : ℕ) (fs : List Field) (zs : List ℤ) → faultOf i fs zs ≡ on (outsideOf i fs zs) 0 (λ j. j)

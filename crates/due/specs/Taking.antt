@@ -25,10 +25,16 @@ faultOf i [] zs = 0
 faultOf i (f ∷ fs) [] = 0
 faultOf i (f ∷ fs) (z ∷ zs) = cond (within f z) (faultOf (suc i) fs zs) i
 
--- the fault is the first field outside its range, and where there is none the record shows the row
-pub record Taken (fields : List Field) (zs : List ℤ) (fault : ℕ) (Shown : Type 0) : Type 0 where
+-- the numbers of a line as its quantities hold them: outside its range the least
+unfoldable pub heldTo : List Field → List ℤ → List ℤ
+heldTo [] zs = zs
+heldTo (f ∷ fs) [] = []
+heldTo (f ∷ fs) (z ∷ zs) = cond (within f z) z (f .least) ∷ heldTo fs zs
+
+-- the fault is the first field outside its range, and the record shows the numbers, each held to its range
+pub record Taken (fields : List Field) (zs : List ℤ) (fault : ℕ) (Shown : List ℤ → Type 0) : Type 0 where
   pub first : fault ≡ faultOf 1 fields zs
-  pub shown : fault ≡ 0 → Shown
+  pub shown : Shown (heldTo fields zs)
 
 -- rule 4 by the thing itself: material 0 without a c, or a listed material with one
 abbrev pub unsuited : Stuff → Bool

@@ -7,11 +7,12 @@ ghost use Prim.Native.Nat.{_≤_};
 ghost use lib.Signed.{ltZ};
 ghost use Rattle.sheet.specs.Shown.{same};
 ghost use Rattle.document.specs.Document01.{gasLine};
-ghost use Rattle.fuel.specs.Fuel.{GasAfter, shares};
+ghost use Rattle.fuel.specs.Fuel.{shares};
 ghost use Rattle.document.specs.Tests.{sumOf, weigh, airWeights, gas-rule};
 ghost use Rattle.document.specs.Reader.{readLine};
 ghost use Rattle.document.specs.Rules.{Every};
 ghost use Rattle.due.specs.Place.{Ready, After};
+ghost use Rattle.due.specs.Taking.{from, Taken};
 use due::Place;
 use due::ranged;
 use due::read_form;
@@ -27,7 +28,7 @@ pub struct GasTaken {
 
 // The gas from the thirteen shares of its line.
 pub fn gas_of(v: [Number; 13]) -> GasTaken
-    ensures { λ r. ⌜ GasAfter v r ⌝ }
+    ensures { λ r. ⌜ Taken (gasLine .fields) (from 0 13 v) (r .fault) (λ zs. shares (r .gas) ≡ zs) ⌝ }
 {
     let mut gas = [Share(0); 13];
     let mut fault = 0;

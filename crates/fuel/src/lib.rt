@@ -30,7 +30,7 @@ pub struct FuelTaken {
 
 // The fuel from the two numbers of its line.
 pub fn fuel_of(v: [Number; 13]) -> FuelTaken
-    ensures { λ r. ⌜ Taken (fuelLine .fields) (from 0 2 v) (r .fault) (fuel (r .fuel) ≡ fuelOf (plain (from 0 2 v))) ⌝ }
+    ensures { λ r. ⌜ Taken (fuelLine .fields) (from 0 2 v) (r .fault) (λ zs. fuel (r .fuel) ≡ fuelOf (plain zs)) ⌝ }
 {
     let n0 = v[0];
     let n1 = v[1];

@@ -57,7 +57,7 @@ pub struct WareTaken {
 
 // The ware from the five numbers of its line.
 pub fn ware_of(v: [Number; 13]) -> WareTaken
-    ensures { λ r. ⌜ Taken (wareLine .fields) (from 0 5 v) (r .fault) (ware (r .ware) ≡ wareOf (plain (from 0 5 v))) ⌝ }
+    ensures { λ r. ⌜ Taken (wareLine .fields) (from 0 5 v) (r .fault) (λ zs. ware (r .ware) ≡ wareOf (plain zs)) ⌝ }
 {
     let n0 = v[0];
     let n1 = v[1];
@@ -114,7 +114,7 @@ pub struct WaterTaken {
 
 // The waters from the three numbers of their line.
 pub fn water_of(v: [Number; 13]) -> WaterTaken
-    ensures { λ r. ⌜ Taken (waterLine .fields) (from 0 3 v) (r .fault) (water (r .water) ≡ waterOf (plain (from 0 3 v))) ⌝ }
+    ensures { λ r. ⌜ Taken (waterLine .fields) (from 0 3 v) (r .fault) (λ zs. water (r .water) ≡ waterOf (plain zs)) ⌝ }
 {
     let n0 = v[0];
     let n1 = v[1];

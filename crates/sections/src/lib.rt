@@ -53,7 +53,7 @@ pub struct SectionTaken {
 
 // A section from the three numbers of its line.
 pub fn section_of(v: [Number; 13]) -> SectionTaken
-    ensures { λ r. ⌜ Taken (sectionLine .fields) (from 0 3 v) (r .fault) (section (r .section) ≡ sectionOf (plain (from 0 3 v))) ⌝ }
+    ensures { λ r. ⌜ Taken (sectionLine .fields) (from 0 3 v) (r .fault) (λ zs. section (r .section) ≡ sectionOf (plain zs)) ⌝ }
 {
     let n0 = v[0];
     let n1 = v[1];

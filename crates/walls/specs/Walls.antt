@@ -7,20 +7,17 @@ use lib.ListN.{length, take, replicate}
 use lib.Signed.{ltZ}
 use lib.IntN.{pos}
 use mathlib.Core.Option.{Option, none}
-use Rattle.limits.specs.declared.Number.{Number}
 use Rattle.sheet.specs.Firing.{Wall, Section}
 use Rattle.sheet.specs.declared.Refusal.{Refusal}
 use Rattle.sheet.specs.declared.Refusal.the-variants.{NoSuchWall}
 use Rattle.sheet.specs.declared.Section.{Section as Sectionˢ}
 use Rattle.sheet.specs.Shown.{section, cell, laid, unread}
-use Rattle.document.specs.Schema.{plain, Row}
+use Rattle.document.specs.Schema.{Row}
 use Rattle.document.specs.Tests.{when, _else_, isListed, wall-rule}
 use Rattle.document.specs.Document01.{wallLine}
 use Rattle.document.specs.Rows.{wallOf, stagesIn, sectionsIn}
 use Rattle.document.specs.Rules.{Every}
 use Rattle.walls.specs.declared.line.Wall.{Wall as Wallˢ}
-use Rattle.walls.specs.declared.line.WallTaken.{WallTaken}
-use Rattle.due.specs.Taking.{from, Taken}
 use Rattle.sheet.specs.declared.Reading.{Reading}
 use Rattle.text.specs.Bytes.{bytes}
 use Rattle.document.specs.Reader.{Sheet, readLine, readRows}
@@ -35,11 +32,6 @@ use Rattle.due.specs.Block.{lacks}
 -- the reading that a wall line gives
 abbrev pub wall : Wallˢ → Wall
 wall x = record { section = pos (x .section .0); stage = pos (x .stage .0); surface = x .surface .0; air = x .air .0 }
-
-pub record WallTakenAs (v : List Number) (r : WallTaken) : Type 0 where
-  pub takes : Taken (wallLine .fields) (from 0 4 v) (r .fault) (wall (r .wall) ≡ wallOf (plain (from 0 4 v)))
-  pub least : 1 ≤ r .wall .stage .0
-  pub most : r .wall .stage .0 ≤ 12
 
 -- a wall line before its rules; whatever it said, its stage is one of twelve
 pub record WallAfter (s : List ℕ) (p : Place) (r : WallLine) : Type 0 where

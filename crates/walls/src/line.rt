@@ -3,10 +3,14 @@ ghost use mathlib.Core.Path.{_≡_};
 ghost use lib.Signed.{ltZ};
 ghost use Rattle.text.specs.Bytes.{bytes};
 ghost use Rattle.sheet.specs.Shown.{reading};
+ghost use Rattle.document.specs.Schema.{plain};
+ghost use Rattle.document.specs.Document01.{wallLine};
 ghost use Rattle.document.specs.Reader.{countLine};
+ghost use Rattle.document.specs.Rows.{wallOf};
 ghost use Rattle.due.specs.Place.{Ready};
+ghost use Rattle.due.specs.Taking.{from, Taken};
 ghost use Rattle.due.specs.Block.{CountAfter};
-ghost use Rattle.walls.specs.Walls.{WallTakenAs, WallAfter, wall};
+ghost use Rattle.walls.specs.Walls.{WallAfter, wall};
 use due::Place;
 use due::due;
 use due::ranged;
@@ -53,7 +57,7 @@ pub struct WallTaken {
 
 // A wall reading from the four numbers of its line.
 pub fn wall_of(v: [Number; 13]) -> WallTaken
-    ensures { λ r. ⌜ WallTakenAs v r ⌝ }
+    ensures { λ r. ⌜ Taken (wallLine .fields) (from 0 4 v) (r .fault) (λ zs. wall (r .wall) ≡ wallOf (plain zs)) ⌝ }
 {
     let n0 = v[0];
     let n1 = v[1];

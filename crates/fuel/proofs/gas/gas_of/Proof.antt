@@ -5,26 +5,18 @@ use mathlib.Core.List.{List, [], _∷_, map-append}
 use native.Mathlib.Numerals.{add-one}
 use native.Mathlib.Omega.{arith}
 use borrow.Author.Needs.{needs}
-use lib.IntN.{ℤ, pos, natAbs}
-use lib.Signed.{leZ-yes}
+use lib.IntN.{ℤ, pos}
 use lib.ListN.{length, getD, take, set, replicate, length-set, length-replicate}
 use lib.Seq.{take-suc-set, take-all}
-use Rattle.arith.proofs.Machine.{range, arg, bound}
 use Rattle.limits.specs.Checked.{Measured}
-use Rattle.limits.proofs.Laws.{within}
 use Rattle.limits.specs.declared.Number.{Number}
 use Rattle.quantity.specs.declared.gas.Share.{Share}
 use Rattle.document.specs.Quantities.{share}
-use Rattle.document.specs.Rules.{Every}
 use Rattle.due.specs.Taking.{from}
 use Rattle.fuel.specs.Fuel.{shares}
 use Rattle.due.proofs.Chain.{Chain, done, taken, chain-snoc, from-end, replicate-end}
-use Rattle.document.proofs.Lists.{every-replicate, every-set}
 use Rattle.fuel.proofs.gas.gas_of.Statement.{statement}
 use Rattle.fuel.proofs.gas.gas_of.Tie as tie
-
-abbrev Small : Share → Type 0
-Small x = natAbs (x .0) ≤ 10000
 
 one-more : (v : List Number) (gas : List Share) (x : Share) (i fault after : ℕ) → i < length gas
     → Chain 0 1 (replicate i share) (from 0 i v) (shares (take i gas)) fault
@@ -35,17 +27,14 @@ one-more v gas x i fault after h c m =
     let e : 0 + i ≡ i = omega arith in
     rw (add-one i, replicate-end i share, from-end v 0 i, e, take-suc-set gas i x h, map-append (λ (y : Share). y .0) (take i gas) (x ∷ [])) (chain-snoc c k m)
 
-share-small : {v x : ℤ} {fault field after : ℕ} → Measured (share .least) (share .greatest) v fault field x after → natAbs x ≤ 10000
-share-small m = let b = within m (leZ-yes tt) in bound (range (b .low) (b .high) ∷ []) (arg 0) tt
-
 abbrev Inv-loop : tie.InvT-loop
-Inv-loop v gas₀ fault₀ i₀ gas fault i = (i ≤ 13) × (length gas ≡ 13) × Every Small gas × Chain 0 1 (replicate i share) (from 0 i v) (shares (take i gas)) fault
+Inv-loop v gas₀ fault₀ i₀ gas fault i = (i ≤ 13) × (length gas ≡ 13) × Chain 0 1 (replicate i share) (from 0 i v) (shares (take i gas)) fault
 
 abbrev μ-loop : tie.MeasureT-loop
 μ-loop v gas₀ fault₀ i₀ gas fault i = 13 - i
 
 loop-holds : tie.Need-loop-holds Inv-loop μ-loop
-loop-holds c = (omega arith, refl, every-replicate Small 13 (record { 0 = pos 0 }) (omega arith), done)
+loop-holds c = (omega arith, refl, done)
 
 loop-again : tie.Need-loop-again Inv-loop μ-loop
 loop-again c =
@@ -55,16 +44,15 @@ loop-again c =
     let x = r .result .value in (
       omega arith,
       simp length-set (at .inv .1),
-      every-set Small (at .gas) (at .i) x (at .inv .2) (share-small (r .ensures)),
-      one-more (turn .before .args .t1) (at .gas) x (at .i) (at .fault) (r .result .fault) (omega arith) (at .inv .3) (r .ensures),
+      one-more (turn .before .args .t1) (at .gas) x (at .i) (at .fault) (r .result .fault) (omega arith) (at .inv .2) (r .ensures),
     )
 
 returns : tie.Need-returns Inv-loop μ-loop
 returns c =
     let at = c .before .loop in
     let e : at .i ≡ 13 = omega arith in
-    let t = rw (e, take-all 13 (at .gas) (omega arith)) at (at .inv .3) in
-    record { takes = taken t (λ same. same); small = at .inv .2 }
+    let t = rw (e, take-all 13 (at .gas) (omega arith)) at (at .inv .2) in
+    taken (λ (l : List ℤ). l) t
 
 pub gas-of-spec : {M : Type 1} → statement M
 gas-of-spec =

@@ -1,6 +1,5 @@
 -- Four constructors in a row. Assumes nothing.
 use borrow.Author.Needs.{needs}
-use Rattle.limits.proofs.Laws.{count-within}
 use Rattle.document.specs.Rows.{wallOf}
 use Rattle.due.proofs.Chain.{_&_, done, taken-as}
 use Rattle.walls.proofs.line.wall_of.Statement.{statement}
@@ -12,12 +11,7 @@ returns c =
     let r2 = r3 .before in
     let r1 = r2 .before in
     let r0 = r1 .before in
-    let limits = count-within (r1 .checked2 .ensures) tt in
-    record {
-      takes = taken-as wallOf (r0 .checked .ensures & r1 .checked2 .ensures & r2 .checked3 .ensures & r3 .checked4 .ensures & done);
-      least = limits .low;
-      most = limits .high;
-    }
+    taken-as wallOf (r0 .checked .ensures & r1 .checked2 .ensures & r2 .checked3 .ensures & r3 .checked4 .ensures & done)
 
 pub wall-of-spec : {M : Type 1} → statement M
 wall-of-spec =
