@@ -1,10 +1,10 @@
 // A plain line of a sheet in one pass: its key (`behind`), and its numbers (`row`). Where anything is not plainly as it should be they say no and
 // name no fault; the crate `form` then reads the line with care.
 ghost use mathlib.Core.Path.{_≡_};
-ghost use mathlib.Core.Bool.{true};
-ghost use Prim.Native.Nat.{_+_, _≤_, _<_};
+ghost use Prim.Native.Nat.{_≤_, _<_};
 ghost use lib.ListN.{length};
-ghost use Rattle.form.specs.Fields.{accepted, fieldsAt, Keyed};
+ghost use Rattle.form.specs.Fields.{accepted, fieldsAt};
+ghost use Rattle.quick.specs.Key.{standing, behindOf};
 ghost use Rattle.quick.specs.Number.{Number};
 use std::num::wrapping_sub_u8;
 
@@ -14,9 +14,9 @@ struct Whole {
     next: usize,
 }
 
-// Whether the key stands at a place, with no LF in it.
+// Whether the key stands at a place within the text, with no LF in it.
 fn keyed(s: &[u8], at: usize, key: &[u8]) -> bool
-    ensures { λ r. ⌜ (r ≡ true → Keyed (now (s .entry)) at (now (key .entry))) ⌝ }
+    ensures { λ r. ⌜ r ≡ standing (now (s .entry)) at (now (key .entry)) ⌝ }
 {
     if s.len() < key.len() || s.len() - key.len() < at {
         return false;
@@ -33,7 +33,7 @@ fn keyed(s: &[u8], at: usize, key: &[u8]) -> bool
 
 // The place behind the key that stands at a place; 0 where it does not stand there.
 pub fn behind(s: &[u8], at: usize, key: &[u8]) -> usize
-    ensures { λ r. ⌜ ((r ≡ 0 → ⊥) → Keyed (now (s .entry)) at (now (key .entry)) × (r ≡ at + length (now (key .entry)))) ⌝ }
+    ensures { λ r. ⌜ r ≡ behindOf (now (s .entry)) at (now (key .entry)) ⌝ }
 {
     if keyed(s, at, key) {
         return at + key.len();

@@ -1,8 +1,16 @@
 -- The numbers are taken out of the array. Assumes nothing.
+use mathlib.Core.Path.{refl}
 use borrow.Author.Needs.{needs}
+use Rattle.quick.proofs.Keys.{behind-keyed}
 use Rattle.due.proofs.Formed.{due-form}
 use Rattle.due.proofs.due.Statement.{statement}
 use Rattle.due.proofs.due.Tie as tie
+
+read-form-requires : tie.Need-read-form-requires
+read-form-requires c κs =
+    let behind = c .before in
+    let a = behind .before .before .before in
+    (a .pre .0, (a .pre .1, (behind-keyed (a .args .s .now) (a .args .p .at) (a .args .key .now) (behind .behind .result) (behind .behind .ensures), refl)))
 
 returns : tie.Need-returns
 returns c =
@@ -13,4 +21,4 @@ returns c =
     (c .numbers .ensures) (formed .read-form .ensures)
 
 pub due-spec : {M : Type 1} → statement M
-due-spec = tie.close (tie.spec (λ c κs. search needs) (λ c κs. search needs) (λ c κs. search needs) returns)
+due-spec = tie.close (tie.spec (λ c κs. search needs) read-form-requires (λ c κs. search needs) returns)

@@ -1,9 +1,9 @@
 -- `behind` meets its contract. Assumes nothing.
-use mathlib.Core.Path.{refl, ap}
+use mathlib.Core.Path.{sym, _∙_}
 use native.Mathlib.Omega.{arith}
-use lib.ListN.{length, drop, length-append, length-drop}
-use Rattle.text.proofs.Scanning.{begins-key}
 use borrow.Author.Needs.{needs}
+use Rattle.quick.specs.Key.{behindOf}
+use Rattle.quick.proofs.Keys.{inside}
 use Rattle.quick.proofs.behind.Statement.{statement}
 use Rattle.quick.proofs.behind.Tie as tie
 
@@ -11,16 +11,15 @@ use Rattle.quick.proofs.behind.Tie as tie
 add-result : tie.Need-add-result
 add-result c =
     let a = c .before .before .before .before .args in
-    let k = a .key .now in
-    let t = drop (a .at) (a .s .now) in
-    let stands = c .before .keyed .ensures (c .if1 .taken) .stands in
-    omega (arith, ap length (begins-key k t stands), length-append k (drop (length k) t), length-drop (a .at) (a .s .now))
+    omega (arith, inside (a .s .now) (a .at) (a .key .now) (sym (c .before .keyed .ensures) ∙ c .if1 .taken))
 
 returns : tie.Need-returns
-returns c = λ q. (c .before .keyed .ensures (c .if1 .taken), refl)
+unfolding behindOf
+returns c = rw (← c .before .keyed .ensures, c .if1 .taken)
 
 returns-2 : tie.Need-returns-2
-returns-2 c = λ q. absurd (q refl)
+unfolding behindOf
+returns-2 c = rw (← c .before .keyed .ensures, c .if1 .left)
 
 pub behind-spec : {M : Type 1} → statement M
 behind-spec = tie.close (tie.spec (λ c κs. search needs) add-result returns returns-2)

@@ -8,6 +8,7 @@ use lib.Dec.{lit≤}
 use lib.IntN.{ℤ, pos, natAbs}
 use lib.ListN.{getD, replicate}
 use lib.Signed.{ltZ, leZ-yes}
+use Rattle.text.specs.Bytes.{bytes}
 use Rattle.arith.proofs.Machine.{range, arg, bound}
 use Rattle.limits.specs.declared.Number.{Number}
 use Rattle.limits.proofs.Laws.{within as between}
@@ -25,6 +26,7 @@ use Rattle.due.proofs.Ranges.{held-measured}
 use Rattle.fuel.specs.Fuel.{shares}
 use Rattle.due.proofs.Lines.{ruled-line}
 use Rattle.due.proofs.Formed.{due-form}
+use Rattle.quick.proofs.Keys.{behind-keyed}
 use Rattle.fuel.proofs.gas.gas_line.Statement.{statement}
 use Rattle.fuel.proofs.gas.gas_line.Tie as tie
 
@@ -39,6 +41,12 @@ all-small : (v : List Number) (i n : ℕ) → Every Small (heldTo (replicate n s
 unfolding heldTo
 all-small v i zero = tt
 all-small v i (suc n) = (share-small (getD v i (record { 0 = pos 0 }) .0), all-small v (suc i) n)
+
+read-form-requires : tie.Need-read-form-requires
+read-form-requires c κs =
+    let behind = c .before .before in
+    let a = behind .before .before .before in
+    (lit≤ tt, (a .pre, (behind-keyed (a .args .s .now) (a .args .p .at) (bytes "gas=") (behind .behind .result) (behind .behind .ensures), refl)))
 
 unburnable-requires : tie.Need-unburnable-requires
 unburnable-requires c κs =
@@ -64,7 +72,7 @@ gas-line-spec =
     (λ c. search needs)
     (λ c κs. search needs)
     (λ c. search needs)
-    (λ c κs. search needs)
+    read-form-requires
     (λ c κs. search needs)
     (λ c κs. search needs)
     (λ c κs. search needs)
