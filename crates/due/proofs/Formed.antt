@@ -14,13 +14,13 @@ use Rattle.limits.specs.declared.Number.{Number}
 use Rattle.text.specs.Scanning.{upTo}
 use Rattle.sheet.proofs.Refusals.{numbered}
 use Rattle.document.specs.Schema.{Row, Judged, refused, values, formedBy}
-use Rattle.document.specs.Reader.{Reader, judged}
+use Rattle.document.specs.Reader.{judged}
 use Rattle.form.specs.declared.Formed.{Formed}
 use Rattle.form.specs.Formed.{zeros, handed, lineAt}
 use Rattle.due.specs.declared.Place.{Place}
 use Rattle.due.specs.Place.{good, goingOn, Fair, Ready, Meets, After}
 use Rattle.due.specs.Taking.{plainNumbers, from}
-use Rattle.due.specs.Form.{readForm, FormAfter}
+use Rattle.due.specs.Form.{readForm, valuesAt, FormAfter}
 use Rattle.due.proofs.Places.{not-both, after-weaker}
 use Rattle.due.proofs.Lines.{in-form}
 
@@ -83,11 +83,16 @@ module _ (s : List ℕ) (p : Place) (key : List ℕ) (n : ℕ) (r : Ready s p) (
         record { field = refl; line = omega (arith, f .some, g .line); within = omega (arith, f .long, b, g .within, length-drop (p .at) s) },
       )
 
+  -- the numbers of the line, whether it is in form or not
+  pub line-values : (l : Formed) → l ≡ lineAt s (p .at) key n → l .values ≡ valuesAt s p key n
+  unfolding valuesAt
+  line-values l e = rw (yes, e)
+
   pub form-read : (l : Formed) → l ≡ lineAt s (p .at) key n → l .number ≡ 0 → FormAfter s p key n (goingOn (p .line) (l .next)) (l .values)
   unfolding lineAt
   form-read l e z =
       let c = read-cases (formedBy key n text) refl (sym (ap (λ (y : Formed). y .number) e) ∙ z) in
-      rw e (record { reads = λ x. c .0; passes = λ x. not-both (good p) yes x; fair = λ x. c .1 })
+      record { after = rw e (record { reads = λ x. c .0; passes = λ x. not-both (good p) yes x; fair = λ x. c .1 }); whole = line-values l e }
 
 -- the numbers taken out of the array
 pub due-form : (s : List ℕ) (p : Place) (key : List ℕ) (n : ℕ) (q : Place) (v : List ℤ) (w : List Number) → n ≤ 13 → plainNumbers w ≡ v
@@ -95,7 +100,11 @@ pub due-form : (s : List ℕ) (p : Place) (key : List ℕ) (n : ℕ) (q : Place)
     → After s p (readForm key n) q (λ row. from 0 n w ≡ row .numbers)
 due-form s p key n q v w h e a =
     after-weaker s p q (readForm key n) (λ row. (v ≡ sets zeros 0 (row .numbers)) × (length (row .numbers) ≡ n)) (λ row. from 0 n w ≡ row .numbers)
-    (λ row g. from-row w (row .numbers) n h (g .1) (e ∙ g .0)) a
+    (λ row g. from-row w (row .numbers) n h (g .1) (e ∙ g .0)) (a .after)
 
-pub form-passed : {A : Type 0} (s : List ℕ) (p : Place) (m : Reader A) (P : A → Type 0) → good p ≡ false → After s p m p P
-form-passed s p m P e = record { reads = λ h. not-both (good p) h e; passes = λ h. refl; fair = λ h. not-both (good p) h e }
+pub form-passed : (s : List ℕ) (p : Place) (key : List ℕ) (n : ℕ) (v : List ℤ) → good p ≡ false → v ≡ zeros → FormAfter s p key n p v
+unfolding valuesAt
+form-passed s p key n v e z = record {
+  after = record { reads = λ h. not-both (good p) h e; passes = λ h. refl; fair = λ h. not-both (good p) h e };
+  whole = rw e z;
+}

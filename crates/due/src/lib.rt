@@ -66,7 +66,7 @@ fn lay(numbers: [i64; 13], v: &mut [i64; 13])
     }
 }
 
-// Reads a line that is not plainly in form, or names its fault.
+// Reads a line that is not plainly in form, or names its fault and leaves zeros.
 fn careful(s: &[u8], p: Place, key: &[u8], n: usize, v: &mut [i64; 13]) -> Place
     requires { ⌜ n ≤ 13 ⌝ }
     requires { ⌜ Ready (now s) p ⌝ }
@@ -75,6 +75,8 @@ fn careful(s: &[u8], p: Place, key: &[u8], n: usize, v: &mut [i64; 13]) -> Place
     ensures { λ r. ⌜ FormAfter (now (s .entry)) p (now (key .entry)) n r (now (v .exit)) ⌝ }
 {
     let l = form::judged(s, p.at, key, n);
+    let values = l.values;
+    lay(values, v);
     let line = p.line;
     if l.number != 0 {
         return Place {
@@ -84,8 +86,6 @@ fn careful(s: &[u8], p: Place, key: &[u8], n: usize, v: &mut [i64; 13]) -> Place
             at: 0,
         };
     }
-    let values = l.values;
-    lay(values, v);
     onward(line, l.next)
 }
 

@@ -1,5 +1,5 @@
 -- The numbers are taken out of the array. Assumes nothing.
-use mathlib.Core.Path.{refl}
+use mathlib.Core.Path.{refl, _∙_}
 use borrow.Author.Needs.{needs}
 use Rattle.quick.proofs.Keys.{behind-keyed}
 use Rattle.due.proofs.Formed.{due-form}
@@ -17,8 +17,12 @@ returns c =
     let formed = c .before in
     let behind = formed .before .before in
     let a = behind .before .before .before in
-    due-form (a .args .s .now) (a .args .p) (a .args .key .now) (a .args .n) (formed .read-form .result) _ (c .numbers .result) (a .pre .0)
-    (c .numbers .ensures) (formed .read-form .ensures)
+    let f = formed .read-form .ensures in
+    record {
+      after = due-form (a .args .s .now) (a .args .p) (a .args .key .now) (a .args .n) (formed .read-form .result) _ (c .numbers .result) (a .pre .0)
+          (c .numbers .ensures) f;
+      whole = c .numbers .ensures ∙ f .whole;
+    }
 
 pub due-spec : {M : Type 1} → statement M
 due-spec = tie.close (tie.spec (λ c κs. search needs) read-form-requires (λ c κs. search needs) returns)

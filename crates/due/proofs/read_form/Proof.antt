@@ -6,7 +6,6 @@ use lib.ListN.{length}
 use borrow.Author.Needs.{needs}
 use Rattle.form.specs.Fields.{accepted}
 use Rattle.form.proofs.Lines.{keyed-line}
-use Rattle.due.specs.Form.{readForm}
 use Rattle.due.proofs.Places.{is-good, is-bad}
 use Rattle.due.proofs.Formed.{form-read, form-passed}
 use Rattle.due.proofs.read_form.Statement.{statement}
@@ -47,7 +46,7 @@ careful-requires c κs =
 returns-3 : tie.Need-returns-3
 returns-3 c =
     let a = c .before .before .before .before .args in
-    form-passed (a .s .now) (a .p) (readForm (a .key .now) (a .n)) _ (is-bad (a .p) (c .if1 .left))
+    form-passed (a .s .now) (a .p) (a .key .now) (a .n) (a .v .now) (is-bad (a .p) (c .if1 .left)) (c .before .before .before .before .pre .1 .1 .1)
 
 pub read-form-spec : {M : Type 1} → statement M
 read-form-spec =

@@ -15,7 +15,7 @@ returns c =
     let t = taken .fuel-of in
     let d = taken .before .before .due in
     rw (c .before .ranged .ensures)
-    (line-after _ _ _ fuelLine (d .result .values) _ (λ zs. fuel (t .result .fuel) ≡ fuelOf (plain zs)) (d .ensures) (t .ensures))
+    (line-after _ _ _ fuelLine (d .result .values) _ (λ zs. fuel (t .result .fuel) ≡ fuelOf (plain zs)) (d .ensures .after) (t .ensures))
 
 pub fuel-line-spec : {M : Type 1} → statement M
 fuel-line-spec = tie.close (tie.spec (λ c. search needs) (λ c κs. search needs) (λ c κs. search needs) (λ c κs. search needs) returns)

@@ -15,7 +15,7 @@ returns c =
     let t = taken .section-of in
     let d = taken .before .before .due in
     rw (c .before .ranged .ensures)
-    (line-after _ _ _ sectionLine (d .result .values) _ (λ zs. section (t .result .section) ≡ sectionOf (plain zs)) (d .ensures) (t .ensures))
+    (line-after _ _ _ sectionLine (d .result .values) _ (λ zs. section (t .result .section) ≡ sectionOf (plain zs)) (d .ensures .after) (t .ensures))
 
 pub section-line-spec : {M : Type 1} → statement M
 section-line-spec = tie.close (tie.spec (λ c. search needs) (λ c κs. search needs) (λ c κs. search needs) (λ c κs. search needs) returns)

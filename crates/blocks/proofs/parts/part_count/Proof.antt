@@ -10,7 +10,7 @@ returns c =
     let checked = c .before .before .before in
     let t = checked .checked in
     let d = checked .before .before .before .due in
-    counted (bytes "parts") 0 32 (d .result .values) (t .result .value .0) (d .ensures) (t .ensures) tt (c .before .ranged .ensures)
+    counted (bytes "parts") 0 32 (d .result .values) (t .result .value .0) (d .ensures .after) (t .ensures) tt (c .before .ranged .ensures)
 
 pub part-count-spec : {M : Type 1} → statement M
 part-count-spec = tie.close (tie.spec (λ c. search needs) (λ c κs. search needs) (λ c. search needs) (λ c κs. search needs) (λ c κs. search needs) returns)

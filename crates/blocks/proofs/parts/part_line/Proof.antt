@@ -23,7 +23,7 @@ returns c =
     let t = taken .part-of in
     let d = taken .before .before .due in
     ruled-line partLine (d .result .values) (λ zs. part (t .result .part) ≡ partOf (plain zs)) (material-rule 1 []) (u .result) (Material 2)
-    (d .ensures) (t .ensures) (ranged .ranged .ensures)
+    (d .ensures .after) (t .ensures) (ranged .ranged .ensures)
     (λ row h. sym (ap (λ (t : Bool). when t (Material 2)) (u .ensures ∙ ap (λ (x : Part). unsuited (x .stuff)) h))) (c .ruled .ensures)
 
 pub part-line-spec : {M : Type 1} → statement M

@@ -23,7 +23,7 @@ returns c =
     let t = taken .setter-of in
     let d = taken .before .before .due in
     ruled-line setterLine (d .result .values) (λ zs. setter (t .result .setter) ≡ setterOf (plain zs)) (material-rule 2 []) (u .result) (Material 3)
-    (d .ensures) (t .ensures) (ranged .ranged .ensures)
+    (d .ensures .after) (t .ensures) (ranged .ranged .ensures)
     (λ row h. sym (ap (λ (t : Bool). when t (Material 3)) (u .ensures ∙ ap (λ (x : Setter). unsuited (x .stuff)) h))) (c .ruled .ensures)
 
 pub setter-line-spec : {M : Type 1} → statement M

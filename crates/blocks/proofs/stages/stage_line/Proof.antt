@@ -15,7 +15,7 @@ returns c =
     let t = taken .stage-of in
     let d = taken .before .before .due in
     rw (c .before .ranged .ensures)
-    (line-after _ _ _ stageLine (d .result .values) _ (λ zs. stage (t .result .stage) ≡ stageOf (plain zs)) (d .ensures) (t .ensures))
+    (line-after _ _ _ stageLine (d .result .values) _ (λ zs. stage (t .result .stage) ≡ stageOf (plain zs)) (d .ensures .after) (t .ensures))
 
 pub stage-line-spec : {M : Type 1} → statement M
 stage-line-spec = tie.close (tie.spec (λ c. search needs) (λ c κs. search needs) (λ c κs. search needs) (λ c κs. search needs) returns)

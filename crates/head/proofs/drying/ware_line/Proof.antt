@@ -23,7 +23,7 @@ returns c =
     let t = taken .ware-of in
     let d = taken .before .before .due in
     ruled-line wareLine (d .result .values) (λ zs. ware (t .result .ware) ≡ wareOf (plain zs)) (material-rule 3 []) (u .result) (Material 4)
-    (d .ensures) (t .ensures) (ranged .ranged .ensures)
+    (d .ensures .after) (t .ensures) (ranged .ranged .ensures)
     (λ row h. sym (ap (λ (t : Bool). when t (Material 4)) (u .ensures ∙ ap (λ (x : Ware). unsuited (x .stuff)) h))) (c .ruled .ensures)
 
 pub ware-line-spec : {M : Type 1} → statement M

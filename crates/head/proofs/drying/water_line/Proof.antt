@@ -15,7 +15,7 @@ returns c =
     let t = taken .water-of in
     let d = taken .before .before .due in
     rw (c .before .ranged .ensures)
-    (line-after _ _ _ waterLine (d .result .values) _ (λ zs. water (t .result .water) ≡ waterOf (plain zs)) (d .ensures) (t .ensures))
+    (line-after _ _ _ waterLine (d .result .values) _ (λ zs. water (t .result .water) ≡ waterOf (plain zs)) (d .ensures .after) (t .ensures))
 
 pub water-line-spec : {M : Type 1} → statement M
 water-line-spec = tie.close (tie.spec (λ c. search needs) (λ c κs. search needs) (λ c κs. search needs) (λ c κs. search needs) returns)

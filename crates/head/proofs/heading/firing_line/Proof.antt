@@ -11,7 +11,7 @@ returns c =
     let checked = c .before .before .before in
     let t = checked .checked in
     let d = checked .before .before .before .due in
-    alone firingLine (d .result .values) (t .result .value .0) (d .ensures) (t .ensures & done) (c .before .ranged .ensures)
+    alone firingLine (d .result .values) (t .result .value .0) (d .ensures .after) (t .ensures & done) (c .before .ranged .ensures)
 
 pub firing-line-spec : {M : Type 1} → statement M
 firing-line-spec = tie.close (tie.spec (λ c. search needs) (λ c κs. search needs) (λ c. search needs) (λ c κs. search needs) (λ c κs. search needs) returns)

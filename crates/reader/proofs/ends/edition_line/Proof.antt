@@ -12,7 +12,7 @@ returns c =
     let checked = c .before .before .before in
     let t = checked .checked in
     let d = checked .before .before .before .due in
-    alone sheetLine (d .result .values) (pos (t .result .value .0)) (d .ensures) (t .ensures & done) (c .before .ranged .ensures)
+    alone sheetLine (d .result .values) (pos (t .result .value .0)) (d .ensures .after) (t .ensures & done) (c .before .ranged .ensures)
 
 pub edition-line-spec : {M : Type 1} → statement M
 edition-line-spec = tie.close (tie.spec (λ c. search needs) (λ c κs. search needs) (λ c. search needs) (λ c κs. search needs) (λ c κs. search needs) returns)

@@ -10,7 +10,7 @@ returns c =
     let checked = c .before .before .before in
     let t = checked .checked in
     let d = checked .before .before .before .due in
-    counted (bytes "walls") 0 48 (d .result .values) (t .result .value .0) (d .ensures) (t .ensures) tt (c .before .ranged .ensures)
+    counted (bytes "walls") 0 48 (d .result .values) (t .result .value .0) (d .ensures .after) (t .ensures) tt (c .before .ranged .ensures)
 
 pub wall-count-spec : {M : Type 1} → statement M
 wall-count-spec = tie.close (tie.spec (λ c. search needs) (λ c κs. search needs) (λ c. search needs) (λ c κs. search needs) (λ c κs. search needs) returns)

@@ -32,7 +32,7 @@ returns c =
     let stage = held-stage (t .result .wall) (d .result .values) (t .ensures .shown) in
     record {
       after = rw (c .before .ranged .ensures)
-          (line-after _ _ _ wallLine (d .result .values) _ (λ zs. wall (t .result .wall) ≡ wallOf (plain zs)) (d .ensures) (t .ensures));
+          (line-after _ _ _ wallLine (d .result .values) _ (λ zs. wall (t .result .wall) ≡ wallOf (plain zs)) (d .ensures .after) (t .ensures));
       least = stage .low;
       most = stage .high;
     }
