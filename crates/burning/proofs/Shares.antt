@@ -23,7 +23,7 @@ use Rattle.document.proofs.Lists.{every-at}
 use Rattle.document.specs.Tests.{weigh, sumOf, all, airWeights}
 use Rattle.document.specs.Rules.{Every}
 use Rattle.document.specs.Rows.{gasRow}
-use Rattle.document.specs.Limits.{In, GasIn}
+use Rattle.document.specs.Lawful.{In, GasIn}
 use Rattle.formulas.specs.Tables.{GasHeat, between, tableA1}
 use Rattle.formulas.specs.Formulas.{mixedHeat, theoreticalAir, dryOfGas, vapourOfGas, ofGas}
 use Rattle.formulas.specs.Figures.{Within}

@@ -1,6 +1,6 @@
 // The fuel as a mixture of gases: its specific heat, the air that it asks and the flue that it gives.
 ghost use Rattle.sheet.specs.Shown.{gas as gasOf};
-ghost use Rattle.document.specs.Limits.{GasIn};
+ghost use Rattle.document.specs.Lawful.{GasIn};
 ghost use Rattle.burning.specs.Mixture.{WarmthFits, WarmthWith, Warmed, BurningFits, BurningWith, Burns};
 use quantity::gas::Share;
 

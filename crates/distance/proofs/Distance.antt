@@ -22,8 +22,8 @@ use Rattle.sheet.specs.Block.{sum, totalGas}
 use Rattle.document.specs.Quantities.{product, ambient, heating, flue, monoxide, gasTotal}
 use Rattle.document.specs.Rules.{Every}
 use Rattle.document.specs.Rows.{firingOf}
-use Rattle.document.specs.Limits.{In, StageIn, SectionIn, Limits}
-use Rattle.document.proofs.Editions.{firing-limits}
+use Rattle.document.specs.Lawful.{In, StageIn, SectionIn, Lawful}
+use Rattle.document.proofs.Editions.{firing-lawful}
 use Rattle.formulas.specs.Rounding.{Rounding, paper}
 use Rattle.formulas.specs.Formulas.{joule, sensible, q1, q2, q3, q5, q8, x1, x2, x3, x5, x10, dryFlue, vapourRate, vapour, dryHeat, vapourHeat, flueHeat, monoxideHeat, x7, x8, noStage, numbered, sectionOf, stageOf, convection, radiation, flux, wallHeat, x9, waterHeat, useful, withset}
 use Rattle.formulas.specs.Items.{Quantity, Item, item, Sides, shuttle, total, x11, heats}
@@ -40,7 +40,7 @@ stand-off {w} cutDown n = record { off = omega (arith, same {w = w} {x = pos (ro
 stand-off oneMore n = one-more
 
 -- ---- THE LIMITS, as the formulas meet them. The gas of all stages
-gas-in : {f : Firing} → Limits f → In gasTotal (totalGas (f .stages))
+gas-in : {f : Firing} → Lawful f → In gasTotal (totalGas (f .stages))
 gas-in h = h .total
 
 -- a reading's area and minutes, found or not
@@ -80,7 +80,7 @@ infixr 5 _&_
 abbrev _&_ : {A B : Type 0} → A → B → A × B
 _&_ a b = (a, b)
 
-module _ (f : Firing) (h : Limits f) (choice : Choice) where
+module _ (f : Firing) (h : Lawful f) (choice : Choice) where
   -- how far a heat is off: so much in any case, and so much for each 0.01 m²·minute of surface
   record Bound (q : Firing → Rounding → ℤ) : Type 0 where
     flat : ℕ
@@ -288,5 +288,5 @@ module _ (f : Firing) (h : Limits f) (choice : Choice) where
 pub demand3 : Demand3
 demand3 = record {
   enclosed = enclosed;
-  near = λ text sheet good choice. near (firingOf sheet) (firing-limits text sheet good) choice;
+  near = λ text sheet good choice. near (firingOf sheet) (firing-lawful text sheet good) choice;
 }

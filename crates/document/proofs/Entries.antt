@@ -11,25 +11,25 @@ use Rattle.text.specs.Bytes.{bytes}
 use Rattle.sheet.specs.Firing.{Stage, Wall, Firing}
 use Rattle.document.specs.Schema.{Row}
 use Rattle.document.specs.Reader.{Sheet, rowsOf, Paragraph, keyOf}
-use Rattle.document.specs.Quantities.{product, ambient, heating, fuelTemperature, share, moisture, mass, sectionNumber, stageNumber, surface, nearAir, stagesMost, settersMost, partsMost, sectionsMost, wallsMost}
+use Rattle.document.specs.Quantities.{edition, firing, product, ambient, heating, fuelTemperature, share, moisture, mass, sectionNumber, stageNumber, surface, nearAir, stagesMost, settersMost, partsMost, sectionsMost, wallsMost}
 use Rattle.document.specs.Tests.{sumOf, weigh, airWeights}
 use Rattle.document.specs.Entries.{Entry, paragraphsOf}
 use Rattle.document.specs.Document01.{gasLine, stageLine, setterLine, partLine, sectionLine, wallLine, opening, heading, fuelling, drying, staging, loading, surfaces, ending}
 use Rattle.document.specs.Editions.{entriesOf}
-use Rattle.document.specs.Rules.{Every, NoTwo, MaterialKeeps, GasKeeps, SameNumber, Listed, Staged, Warm}
+use Rattle.document.specs.Rules.{Every, NoTwo, MaterialKeeps, GasKeeps, SameNumber, Listed, Staged, SameReading, Warm}
 use Rattle.document.specs.Rows.{gasOf, stageRow, stageOf, setterRow, setterOf, partRow, partOf, sectionRow, sectionOf, wallRow, wallOf, first, editionIn, stageAs, stagesIn, sectionsIn, wallAs, wallsIn, firingOf}
-use Rattle.document.specs.Limits.{In, GasIn, WareIn, WaterIn, StageIn, SetterIn, PartIn, SectionIn, WallIn, Apart}
+use Rattle.document.specs.Lawful.{In, GasIn, WareIn, WaterIn, StageIn, SetterIn, PartIn, SectionIn, WallIn}
 use Rattle.document.proofs.Judged.{is-fit}
 use Rattle.document.proofs.Rules.{material-asks, gas-asks}
-use Rattle.document.proofs.Lists.{every-with, every-join, every-split, no-two-imp}
+use Rattle.document.proofs.Lists.{every-with, every-join, every-split}
 use Rattle.document.proofs.Above.{Same}
 use Rattle.document.proofs.Forms.{OneRow, ParagraphForm, Keyed, distinct}
 use Rattle.document.proofs.Rows.{row-back, one-back, many-back, end-back}
-use Rattle.document.proofs.Fields.{all-in, one-in, many-in, few, not-below}
+use Rattle.document.proofs.Fields.{all-in, one-in, many-in, one-ruled, many-ruled, enough, few, not-below}
 use Rattle.document.proofs.Ruled.{RuledAt, alone, unasked, sections-ruled, Readings, ordered, walls-ruled}
 
 -- ONE ENTRY: what the firing of a sheet says there is what the sheet says
-pub record Lawful (edition : ℤ) (e : Entry) : Type 0 where
+pub record SaidBack (edition : ℤ) (e : Entry) : Type 0 where
   pub back : (s : Sheet) → editionIn s ≡ edition → ParagraphForm (e .paragraph) (rowsOf (keyOf (e .paragraph)) s)
       → e .says (firingOf s) ≡ rowsOf (keyOf (e .paragraph)) s
 
@@ -41,7 +41,7 @@ allLines edition = paragraphsOf (opening ∷ entriesOf edition)
 
 -- A GROUP: what its rules ask of the sheet, and what is then known of the firing
 pub record Group (edition : ℤ) (es : List Entry) (Known : Firing → Type 0) (Asked : Sheet → Type 0) : Type 0 where
-  pub each : Every (Lawful edition) es
+  pub each : Every (SaidBack edition) es
   pub known : (s : Sheet) → editionIn s ≡ edition → Every (FormedAt s) es → Asked s → Known (firingOf s)
   pub asked : (s : Sheet) → editionIn s ≡ edition → Keyed (allLines edition) s → Same (Every (λ e. RuledAt s (e .paragraph)) es) (Asked s)
 
@@ -49,7 +49,7 @@ infixr 5 _then_
 pub _then_ : {edition : ℤ} {a b : List Entry} {K L : Firing → Type 0} {A B : Sheet → Type 0}
     → Group edition a K A → Group edition b L B → Group edition (a ++ b) (λ f. K f × L f) (λ s. A s × B s)
 _then_ {edition = edition} {a = a} {b = b} g h = record {
-  each = every-join (Lawful edition) a b (g .each) (h .each);
+  each = every-join (SaidBack edition) a b (g .each) (h .each);
   known = λ s e k r. let m = every-split (FormedAt s) a b k in (g .known s e (m .0) (r .0), h .known s e (m .1) (r .1));
   asked = λ s e k. record {
     to = λ r. let m = every-split (λ x. RuledAt s (x .paragraph)) a b r in (g .asked s e k .to (m .0), h .asked s e k .to (m .1));
@@ -70,15 +70,19 @@ abbrev pub Silent : {A : Type 0} → A → Type 0
 Silent a = Unit {0}
 
 -- ---- SHEET
-pub opening-laws : {edition : ℤ} → Group edition (opening ∷ []) Silent Silent
+pub record OpeningIn (f : Firing) : Type 0 where
+  pub edition : In edition (f .edition)
+
+pub opening-laws : {edition : ℤ} → Group edition (opening ∷ []) OpeningIn Silent
 opening-laws = record {
   each = record { back = λ s e. one-back } & tt;
-  known = λ s e k a. tt;
+  known = λ s e k a. record { edition = one-in (k .0) 0 };
   asked = λ s e k. record { to = λ r. tt; from = λ r. unasked s _ (λ t r. refl) & tt };
 }
 
 -- ---- FIRING, PRODUCT, AMBIENT
 pub record HeadingIn (f : Firing) : Type 0 where
+  pub number : In firing (f .number)
   pub product : In product (f .product)
   pub ambient : In ambient (f .ambient)
 
@@ -89,7 +93,7 @@ heading-laws = record {
       & record { back = λ s e. one-back }
       & record { back = λ s e. one-back }
       & tt;
-  known = λ s e k a. record { product = one-in (k .1 .0) 0; ambient = one-in (k .1 .1 .0) 0 };
+  known = λ s e k a. record { number = one-in (k .0) 0; product = one-in (k .1 .0) 0; ambient = one-in (k .1 .1 .0) 0 };
   asked = λ s e k. record { to = λ r. tt; from = λ r. unasked s _ (λ t r. refl) & unasked s _ (λ t r. refl) & unasked s _ (λ t r. refl) & tt };
 }
 
@@ -136,7 +140,12 @@ drying-laws = record {
       let water = one-in (k .1 .1 .0) in
       record {
         moisture = one-in (k .0) 0;
-        ware = record { green = ware 0; entry = ware 1; highest = ware 2; stuff = record { material = ware 3; c = ware 4 } };
+        ware = record {
+          green = ware 0;
+          entry = ware 1;
+          highest = ware 2;
+          stuff = record { material = ware 3; c = ware 4; own = one-ruled (MaterialKeeps 3) (k .1 .0) a };
+        };
         water = record { adsorbed = water 0; crystal = water 1; flue = water 2 };
         clay = one-in (k .1 .1 .1 .0) 0;
       };
@@ -151,6 +160,7 @@ drying-laws = record {
 -- ---- STAGES
 pub record StagingIn (f : Firing) : Type 0 where
   pub each : Every StageIn (f .stages)
+  pub some : 1 ≤ length (f .stages)
   pub most : length (f .stages) ≤ stagesMost
 
 pub staging-laws : {edition : ℤ} → ReadAs edition stageAs stageOf → Group edition staging StagingIn Silent
@@ -159,6 +169,7 @@ staging-laws {edition} read = record {
   known = λ s e k a. record {
     each = many-in StageIn (stageAs (editionIn s)) (k .0) (λ r z.
         subst (λ (x : Stage). StageIn x) (sym (read s e r)) (record { gas = z 0; excess = z 1; flue = z 2; co = z 3; minutes = z 4 }));
+    some = enough (stageAs (editionIn s)) (k .0);
     most = few (stageAs (editionIn s)) (k .0);
   };
   asked = λ s e k. record { to = λ r. tt; from = λ r. unasked s _ (λ t r. refl) & tt };
@@ -182,9 +193,11 @@ loading-laws = record {
       & record { back = λ s e. many-back partRow partOf (row-back partLine) }
       & tt;
   known = λ s e k a. record {
-    setters = many-in SetterIn setterOf (k .0) (λ r z. record { mass = z 0; entry = z 1; stuff = record { material = z 2; c = z 3 } });
+    setters = many-ruled SetterIn (MaterialKeeps 2) setterOf (k .0) (a .setters) (λ r z m.
+        record { mass = z 0; entry = z 1; stuff = record { material = z 2; c = z 3; own = m } });
     settersMost = few setterOf (k .0);
-    parts = many-in PartIn partOf (k .1 .0) (λ r z. record { mass = z 0; stuff = record { material = z 1; c = z 2 }; before = z 3; firing = z 4 });
+    parts = many-ruled PartIn (MaterialKeeps 1) partOf (k .1 .0) (a .parts) (λ r z m.
+        record { mass = z 0; stuff = record { material = z 1; c = z 2; own = m }; before = z 3; firing = z 4 });
     partsMost = few partOf (k .1 .0);
   };
   asked = λ s e k.
@@ -199,10 +212,12 @@ loading-laws = record {
 -- ---- SECTIONS, WALLS
 pub record SurfacesIn (f : Firing) : Type 0 where
   pub sections : Every SectionIn (f .sections)
+  pub sectionsSome : 1 ≤ length (f .sections)
   pub sectionsMost : length (f .sections) ≤ sectionsMost
+  pub numbered : NoTwo SameNumber (f .sections)
   pub walls : Every (WallIn f) (f .walls)
   pub wallsMost : length (f .walls) ≤ wallsMost
-  pub apart : Apart (f .walls)
+  pub once : NoTwo SameReading (f .walls)
 
 pub record SurfacesKeep (s : Sheet) : Type 0 where
   pub numbered : NoTwo SameNumber (sectionsIn s)
@@ -240,11 +255,13 @@ surfaces-laws {edition} read o = record {
       & tt;
   known = λ s e k a. record {
     sections = many-in SectionIn sectionOf (k .0) (λ r z. record { number = z 0; place = z 1; area = z 2 });
+    sectionsSome = enough sectionOf (k .0);
     sectionsMost = few sectionOf (k .0);
+    numbered = a .numbered;
     walls = walls-in s (a .readings) (many-in WallFields (wallAs (editionIn s)) (k .1 .0) (λ r z.
         subst (λ (x : Wall). WallFields x) (sym (read s e r)) (record { section = z 0; stage = z 1; surface = z 2; air = z 3 })));
     wallsMost = few (wallAs (editionIn s)) (k .1 .0);
-    apart = no-two-imp (λ x y e. (sym (e .0), sym (e .1))) (wallsIn s) (a .readings .once);
+    once = a .readings .once;
   };
   asked = λ s e k.
       let sections = sections-ruled s in
@@ -271,6 +288,7 @@ pub record AllKeep (s : Sheet) : Type 0 where
   pub surfaces : SurfacesKeep s
 
 pub record AllIn (f : Firing) : Type 0 where
+  pub opening : OpeningIn f
   pub heading : HeadingIn f
   pub fuelling : FuellingIn f
   pub drying : DryingIn f
@@ -284,7 +302,7 @@ Keeping s =
     × (Unit {0} × (LoadingKeeps s × (SurfacesKeep s × Unit {0}))))))
 
 abbrev Knowing : Firing → Type 0
-Knowing f = Unit {0} × (HeadingIn f × (FuellingIn f × (DryingIn f × (StagingIn f × (LoadingIn f × (SurfacesIn f × Unit {0}))))))
+Knowing f = OpeningIn f × (HeadingIn f × (FuellingIn f × (DryingIn f × (StagingIn f × (LoadingIn f × (SurfacesIn f × Unit {0}))))))
 
 gathered : {edition : ℤ} {es : List Entry} → Group edition es Knowing Keeping → Group edition es AllIn AllKeep
 gathered g =
@@ -292,9 +310,10 @@ gathered g =
     record {
       each = g .each;
       known = λ s e k a.
-          let m = g .known s e k (back s a) .1 in
+          let known = g .known s e k (back s a) in
+          let m = known .1 in
           let n = m .1 .1 in
-          record { heading = m .0; fuelling = m .1 .0; drying = n .0; staging = n .1 .0; loading = n .1 .1 .0; surfaces = n .1 .1 .1 .0 };
+          record { opening = known .0; heading = m .0; fuelling = m .1 .0; drying = n .0; staging = n .1 .0; loading = n .1 .1 .0; surfaces = n .1 .1 .1 .0 };
       asked = λ s e k. record {
         to = λ r. let m = g .asked s e k .to r .1 .1 in record { gas = m .0; ware = m .1 .0; loading = m .1 .1 .1 .0; surfaces = m .1 .1 .1 .1 .0 };
         from = λ a. g .asked s e k .from (back s a);

@@ -1,6 +1,6 @@
 -- A row that fits its line has each field in its range: of the one row of a line, and of all rows of a block. Assumes nothing.
 use Prim.Native.Nat.{ℕ, zero, suc, _≤_}
-use mathlib.Core.Path.{_≡_, refl}
+use mathlib.Core.Path.{_≡_, refl, subst}
 use mathlib.Core.List.{List, [], _∷_, map}
 use mathlib.Core.Bool.{Bool, true, false}
 use native.Mathlib.Omega.{arith}
@@ -10,11 +10,11 @@ use lib.Signed.{leZ, ltZ, _≤ℤ_, _<ℤ_, ltZ-no}
 use Rattle.document.specs.Schema.{Field, Line, Row, at, within, inRanges, fits}
 use Rattle.document.specs.Rules.{Every}
 use Rattle.document.specs.Rows.{first}
-use Rattle.document.specs.Limits.{In}
+use Rattle.document.specs.Lawful.{In}
 use Rattle.document.proofs.Cases.{clash, both}
 use Rattle.document.proofs.Judged.{is-fit}
 use Rattle.document.proofs.Rules.{tests-le, tests-lt}
-use Rattle.document.proofs.Lists.{every-imp, made-every}
+use Rattle.document.proofs.Lists.{every-imp, every-with, made-every}
 use Rattle.document.proofs.Forms.{OneRow, ManyRows}
 
 -- A FIELD IS IN ITS RANGE: the i-th, counted from 0
@@ -50,11 +50,23 @@ all-in (suc n) f (z ∷ zs) e = let b = both (within f z) (inRanges (replicate n
 pub one-in : {l : Line} {rows : List Row} → OneRow l rows → (i : ℕ) → FieldIn i (l .fields) (at (first rows) i)
 one-in {l = l} o i = rw (o .is) (field-in l (o .row) (o .fit) i)
 
-pub many-in : {A : Type 0} {l : Line} {most : ℕ} {rows : List Row} (P : A → Type 0) (of : Row → A) → ManyRows l most rows
+pub many-in : {A : Type 0} {l : Line} {least most : ℕ} {rows : List Row} (P : A → Type 0) (of : Row → A) → ManyRows l least most rows
     → ((r : Row) → ((i : ℕ) → FieldIn i (l .fields) (at r i)) → P (of r)) → Every P (map of rows)
 many-in {l = l} {rows = rows} P of k h = made-every of P rows (every-imp (λ r e. h r (field-in l r e)) rows (k .fit))
 
-pub few : {A : Type 0} {l : Line} {most : ℕ} {rows : List Row} (of : Row → A) → ManyRows l most rows → length (map of rows) ≤ most
+-- .. that keep a rule as well
+pub one-ruled : {l : Line} {rows : List Row} (Q : Row → Type 0) → OneRow l rows → Every Q rows → Q (first rows)
+one-ruled Q o k = rw (o .is) (subst (λ (l : List Row). Every Q l) (o .is) k .0)
+
+pub many-ruled : {A : Type 0} {l : Line} {least most : ℕ} {rows : List Row} (P : A → Type 0) (Q : Row → Type 0) (of : Row → A)
+    → ManyRows l least most rows → Every Q rows → ((r : Row) → ((i : ℕ) → FieldIn i (l .fields) (at r i)) → Q r → P (of r)) → Every P (map of rows)
+many-ruled {l = l} {rows = rows} P Q of k m h = made-every of P rows (every-with (λ r e q. h r (field-in l r e) q) rows (k .fit) m)
+
+-- as many as the count may be
+pub enough : {A : Type 0} {l : Line} {least most : ℕ} {rows : List Row} (of : Row → A) → ManyRows l least most rows → least ≤ length (map of rows)
+enough {rows = rows} of k = omega (arith, k .enough, length-map rows of)
+
+pub few : {A : Type 0} {l : Line} {least most : ℕ} {rows : List Row} (of : Row → A) → ManyRows l least most rows → length (map of rows) ≤ most
 few {rows = rows} of k = omega (arith, k .few, length-map rows of)
 
 -- what is not below is at least as much

@@ -16,7 +16,7 @@ use Rattle.document.specs.Rules.{Every}
 use Rattle.document.proofs.Cases.{clash, both}
 use Rattle.document.proofs.Above.{Same}
 use Rattle.document.proofs.Lists.{every-with}
-use Rattle.document.proofs.Sizes.{count-most}
+use Rattle.document.proofs.Sizes.{count-in}
 
 -- THE ROWS OF A PART
 pub record OneRow (l : Line) (rows : List Row) : Type 0 where
@@ -24,13 +24,14 @@ pub record OneRow (l : Line) (rows : List Row) : Type 0 where
   pub is : rows ≡ row ∷ []
   pub fit : fits l row ≡ true
 
-pub record ManyRows (l : Line) (most : ℕ) (rows : List Row) : Type 0 where
+pub record ManyRows (l : Line) (least most : ℕ) (rows : List Row) : Type 0 where
+  pub enough : least ≤ length rows
   pub few : length rows ≤ most
   pub fit : Every (λ r. fits l r ≡ true) rows
 
 abbrev pub ParagraphForm : Paragraph → List Row → Type 0
 ParagraphForm (one l rule) rows = OneRow l rows
-ParagraphForm (many key a b l rule) rows = ManyRows l b rows
+ParagraphForm (many key a b l rule) rows = ManyRows l a b rows
 
 record Form (p : Paragraph) (f : Filled) : Type 0 where
   key : f .key ≡ keyOf p
@@ -47,10 +48,9 @@ one-row l (row ∷ next ∷ rows) n k = absurd (omega arith)
 
 paragraph-form : (p : Paragraph) (seen : Sheet) (f : Filled) → ParagraphKeeps (unruled p) seen f → Form p f
 paragraph-form (one l rule) seen f k = record { key = k .0; rows = one-row l (f .rows) (k .1) (rows-fit l seen [] (f .rows) (k .2)) }
-paragraph-form (many key a b l rule) seen f k = record {
-  key = k .0;
-  rows = record { few = count-most key a b (f .rows) (k .1); fit = rows-fit l seen [] (f .rows) (k .2) };
-}
+paragraph-form (many key a b l rule) seen f k =
+    let count = count-in key a b (f .rows) (k .1) in
+    record { key = k .0; rows = record { enough = count .0; few = count .1; fit = rows-fit l seen [] (f .rows) (k .2) } }
 
 -- THE PARTS OF A SHEET BY THEIR KEYS, where the keys differ
 abbrev pub Keyed : List Paragraph → Sheet → Type 0

@@ -17,7 +17,7 @@ use Rattle.document.proofs.Lists.{every-made, made-every}
 use Rattle.document.proofs.Above.{Same, RowsRuled, paragraphs-split, paragraphs-join}
 use Rattle.document.proofs.Forms.{ParagraphForm, Keyed, by-key, form-of, under, refilled}
 use Rattle.document.proofs.Ruled.{RuledAt}
-use Rattle.document.proofs.Entries.{Lawful, FormedAt, allLines, AllKeep, sheets}
+use Rattle.document.proofs.Entries.{SaidBack, FormedAt, allLines, AllKeep, sheets}
 
 -- THE LINES, the first with those that it chooses: what it says is the edition, also of the whole sheet
 all-lines : (below : ℤ → List Paragraph) (whole : Sheet → Option Refusal) (sheet : Sheet)
@@ -53,7 +53,7 @@ form-in sheet k =
     let f = form-of (paragraphsOf es) sheet (sheets (editionIn sheet) .distinct) (formed-lines sheet .to (k .lines)) in
     record { keyed = f .keyed; each = every-made (λ e. e .paragraph) (λ p. ParagraphForm p (rowsOf (keyOf p) sheet)) es (f .each) }
 
-said : (s : Sheet) (es : List Entry) → Every (Lawful (editionIn s)) es → Every (FormedAt s) es → map (fill (firingOf s)) es ≡ map (under s) (paragraphsOf es)
+said : (s : Sheet) (es : List Entry) → Every (SaidBack (editionIn s)) es → Every (FormedAt s) es → map (fill (firingOf s)) es ≡ map (under s) (paragraphsOf es)
 said s [] l k = refl
 said s (x ∷ es) l k = rw (l .0 .back s refl (k .0), said s es (l .1) (k .1))
 

@@ -13,7 +13,7 @@ pub mod Fields
 pub mod Ruled
 pub mod Entries
 pub mod Kept
-pub mod Limits
+pub mod Lawful
 pub mod Numbering
 pub mod Document01
 pub mod Editions

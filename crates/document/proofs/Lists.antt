@@ -20,6 +20,11 @@ module _ {A : Type 0} where
   every-one h [] = tt
   every-one h (x ∷ xs) = (h x, every-one h xs)
 
+  pub some-imp : {P Q : A → Type 0} → ((x : A) → P x → Q x) → (xs : List A) → Some P xs → Some Q xs
+  some-imp h [] s = absurd s
+  some-imp h (x ∷ xs) (inl p) = inl (h x p)
+  some-imp h (x ∷ xs) (inr s) = inr (some-imp h xs s)
+
   -- every one of two lists, one behind the other
   pub every-join : (P : A → Type 0) (xs ys : List A) → Every P xs → Every P ys → Every P (xs ++ ys)
   every-join P [] ys k m = m

@@ -13,7 +13,7 @@ use Rattle.document.specs.Rules.{Some, Every, NoTwo, SameNumber}
 use Rattle.document.specs.Rows.{stagesIn, sectionsIn, wallsIn, firingOf}
 use Rattle.document.proofs.Whole.{kept}
 use Rattle.document.proofs.Kept.{rules-kept}
-use Rattle.document.proofs.Editions.{firing-limits}
+use Rattle.document.proofs.Editions.{firing-lawful}
 
 -- a reading at a section in a stage
 abbrev Cell : ℤ → ℤ → Wall → Type 0
@@ -72,4 +72,4 @@ pub readings-most : (text : List ℕ) (sheet : Sheet) → readOf document text �
     → length (firingOf sheet .sections) * length (firingOf sheet .stages) ≤ 48
 readings-most text sheet e =
     let r = rules-kept sheet (kept document text sheet e .keeps) in
-    omega (arith, as-many (length (stagesIn sheet)) (sectionsIn sheet) (wallsIn sheet) (r .numbered) (r .read), firing-limits text sheet e .wallsMost)
+    omega (arith, as-many (length (stagesIn sheet)) (sectionsIn sheet) (wallsIn sheet) (r .numbered) (r .read), firing-lawful text sheet e .wallsMost)

@@ -52,8 +52,8 @@ row-back l r h =
 pub one-back : {l : Line} {rows : List Row} → OneRow l rows → plain (numbersAt 0 (length (l .fields)) (first rows)) ∷ [] ≡ rows
 one-back {l = l} o = rw (o .is, row-back l (o .row) (o .fit))
 
-pub many-back : {A : Type 0} {l : Line} {most : ℕ} {rows : List Row} (to : A → Row) (from : Row → A) → ((r : Row) → fits l r ≡ true → to (from r) ≡ r)
-    → ManyRows l most rows → map to (map from rows) ≡ rows
+pub many-back : {A : Type 0} {l : Line} {least most : ℕ} {rows : List Row} (to : A → Row) (from : Row → A) → ((r : Row) → fits l r ≡ true → to (from r) ≡ r)
+    → ManyRows l least most rows → map to (map from rows) ≡ rows
 many-back {l = l} {rows = rows} to from back k = each rows (k .fit)
   where
     each : (rows : List Row) → Every (λ r. fits l r ≡ true) rows → map to (map from rows) ≡ rows

@@ -50,13 +50,14 @@ rows-most l rule seen above [] s h = omega arith
 rows-most l rule seen above (row ∷ rows) s h =
     omega (arith, line-most l row s (h .0), rows-most l rule seen (above ++ (row ∷ [])) rows s (h .2), length-append (lineText l row) (rowsText l rows))
 
--- a block has at most as many rows as its count may be
-pub count-most : (key : List ℕ) (a b : ℕ) (rows : List Row) → fits (countLine key a b) (countOf rows) ≡ true → length rows ≤ b
+-- a block has as many rows as its count may be
+pub count-in : (key : List ℕ) (a b : ℕ) (rows : List Row) → fits (countLine key a b) (countOf rows) ≡ true → (a ≤ length rows) × (length rows ≤ b)
 unfolding inRanges
-count-most key a b rows h =
+count-in key a b rows h =
     let n = pos (length rows) in
     let i = both (within (to a b) n) true (is-fit (countLine key a b) (countOf rows) h .inside) .0 in
-    leb-true (length rows) b (both (leZ (pos a) n) (leZ n (pos b)) i .1)
+    let c = both (leZ (pos a) n) (leZ n (pos b)) i in
+    (leb-true a (length rows) (c .0), leb-true (length rows) b (c .1))
 
 paragraph-most : (p : Paragraph) (seen : Sheet) (f : Filled) → soundParagraph p ≡ true → ParagraphKeeps p seen f
     → length (paragraphText p (f .rows)) ≤ paragraphSize p
@@ -66,7 +67,7 @@ paragraph-most (one l rule) seen f s h =
 paragraph-most (many key a b l rule) seen f s h =
     let t = both (sound (countLine key a b)) (sound l) s in
     let c = line-most (countLine key a b) (countOf (f .rows)) (t .0) (h .1) in
-    let m : length (f .rows) * lineSize l ≤ b * lineSize l = mul-le-mul-right (lineSize l) (count-most key a b (f .rows) (h .1)) in
+    let m : length (f .rows) * lineSize l ≤ b * lineSize l = mul-le-mul-right (lineSize l) (count-in key a b (f .rows) (h .1) .1) in
     omega
     (arith, c, rows-most l rule seen [] (f .rows) (t .1) (h .2), m, length-append (lineText (countLine key a b) (countOf (f .rows))) (rowsText l (f .rows)))
 

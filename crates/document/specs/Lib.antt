@@ -8,4 +8,4 @@ pub mod Entries
 pub mod Document01
 pub mod Editions
 pub mod Rules
-pub mod Limits
+pub mod Lawful

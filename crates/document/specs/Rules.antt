@@ -28,9 +28,12 @@ abbrev pub NoTwo : {A : Type 0} → (A → A → Type 0) → List A → Type 0
 NoTwo R [] = Unit {0}
 NoTwo R (x ∷ xs) = Every (λ y. ¬ R y x) xs × NoTwo R xs
 
--- 4: a listed material has no c of its own, and material 0 has one
+-- 4: material 0 has a c of its own, and a listed one has none
+abbrev pub OwnHeat : ℤ → ℤ → Type 0
+OwnHeat material c = ((material ≡ pos 0) × ¬ (c ≡ pos 0)) ⊎ (¬ (material ≡ pos 0) × (c ≡ pos 0))
+
 abbrev pub MaterialKeeps : ℕ → Row → Type 0
-MaterialKeeps i row = ((at row i ≡ pos 0) × ¬ (at row (i + 1) ≡ pos 0)) ⊎ (¬ (at row i ≡ pos 0) × (at row (i + 1) ≡ pos 0))
+MaterialKeeps i row = OwnHeat (at row i) (at row (i + 1))
 
 -- 5: the shares add to 10,000, and theoretical air is above 0
 abbrev pub GasKeeps : Row → Type 0

@@ -7,7 +7,7 @@ use mir.Val.{SFits}
 use Rattle.sheet.specs.Firing.{Stage}
 use Rattle.document.specs.Quantities.{ambient, moisture}
 use Rattle.document.specs.Rules.{Every}
-use Rattle.document.specs.Limits.{In, StageIn}
+use Rattle.document.specs.Lawful.{In, StageIn}
 use Rattle.formulas.specs.Rounding.{paper}
 use Rattle.formulas.specs.Formulas.{Burning, dryFlue}
 use Rattle.formulas.specs.Figures.{Within, Figure}

@@ -17,7 +17,7 @@ use Rattle.arith.proofs.Order.{sfits-abs}
 use Rattle.arith.proofs.Span.{far}
 use Rattle.arith.proofs.Machine.{Known, small, range, Mx, raw, mean, span, bound}
 use Rattle.document.specs.Schema.{Field}
-use Rattle.document.specs.Limits.{In}
+use Rattle.document.specs.Lawful.{In}
 use Rattle.document.specs.Tests.{all}
 use Rattle.formulas.specs.Rounding.{paper}
 use Rattle.formulas.specs.Figures.{Is, Within, Figure}

@@ -12,7 +12,7 @@ use Rattle.arith.proofs.Order.{sfits-abs}
 use Rattle.sheet.specs.declared.Sheet.{Sheet}
 use Rattle.sheet.specs.Firing.{Firing}
 use Rattle.sheet.specs.Shown.{firing}
-use Rattle.document.specs.Limits.{Limits}
+use Rattle.document.specs.Lawful.{Lawful}
 use Rattle.formulas.specs.Figures.{Is, Within, Figure}
 use Rattle.formulas.specs.Items.{Quantity}
 use Rattle.formulas.specs.Sizes.{heatMost}
@@ -20,8 +20,8 @@ use Rattle.heat.specs.Balance.{Kept, Heat}
 use Rattle.formulas.proofs.Units.{only}
 
 -- its firing is written out field by field, so that the limits are those of the struct's own fields
-pub own : {x : Sheet} {f : Firing} → Kept x f → Limits (firing x (f .walls))
-own k = subst Limits (k .shows .lines) (k .limits)
+pub own : {x : Sheet} {f : Firing} → Kept x f → Lawful (firing x (f .walls))
+own k = subst Lawful (k .shows .lines) (k .rules)
 
 -- a field of the firing is that of the struct
 pub field : {A : Type 0} {x : Sheet} {f : Firing} → Kept x f → (g : Firing → A) → g f ≡ g (firing x (f .walls))

@@ -5,7 +5,7 @@ use lib.IntN.{ℤ}
 use Rattle.sheet.specs.declared.Sheet.{Sheet}
 use Rattle.sheet.specs.Firing.{Firing}
 use Rattle.sheet.specs.Shown.{Shows}
-use Rattle.document.specs.Limits.{Limits}
+use Rattle.document.specs.Lawful.{Lawful}
 use Rattle.heat.specs.declared.Heats.{Heats}
 use Rattle.formulas.specs.Rounding.{paper}
 use Rattle.formulas.specs.Formulas.{joule, q1, q2, q3, q5, q8, x1, x2, x3, x5, x7, x8, x9, x10, waterHeat}
@@ -14,10 +14,10 @@ use Rattle.formulas.specs.Figures.{Figure}
 use Rattle.formulas.specs.Sizes.{q1Most, q2Most, sensibleMost, settersHeatMost, partsHeatMost, x2Most, x3Most, x7Most, x8Most, x9Most}
 use Rattle.formulas.specs.Sizes.{waterHeatMost, heatMost}
 
--- the firing is shown by the sheet and keeps the rules
+-- the firing is shown by the sheet and keeps every rule: so every section was read in every stage
 pub record Kept (x : Sheet) (f : Firing) : Type 0 where
   pub shows : Shows x f
-  pub limits : Limits f
+  pub rules : Lawful f
 
 -- n joules are the heat q of the firing f, and they are at most so many
 abbrev pub Heat : Quantity → Firing → ℕ → ℤ → Type 0

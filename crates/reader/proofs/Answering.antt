@@ -22,8 +22,8 @@ use Rattle.document.specs.Reader.{Sheet, Read, stopped, got, readLines, Answer,
 use Rattle.document.specs.Tests.{all, counted, isRead, when, _else_}
 use Rattle.document.specs.Editions.{document}
 use Rattle.document.specs.Rows.{stagesIn, sectionsIn, wallsIn, firingOf}
-use Rattle.document.specs.Limits.{Limits}
-use Rattle.document.proofs.Editions.{firing-limits}
+use Rattle.document.specs.Lawful.{Lawful}
+use Rattle.document.proofs.Editions.{firing-lawful}
 use Rattle.document.proofs.Numbering.{refuses}
 use Rattle.sheet.specs.Blank.{blankSheet}
 use Rattle.walls.specs.Cells.{allRead}
@@ -185,8 +185,8 @@ firm-judged s r h e = here (readOf document s) refl h
     here (Refused x n) g k = not-both (good (r .place)) e (ap good k ∙ refused-bad x n)
     here (Good sheet) g k = record { sheet = sheet; good = g; shows = k .1 }
 
-pub firm-limits : {s : List ℕ} {x : Sheetˢ} (a : Firm s x) → Limits (firingOf (a .sheet))
-firm-limits {s} a = firing-limits s (a .sheet) (a .good)
+pub firm-lawful : {s : List ℕ} {x : Sheetˢ} (a : Firm s x) → Lawful (firingOf (a .sheet))
+firm-lawful {s} a = firing-lawful s (a .sheet) (a .good)
 
 -- A REFUSED SHEET: a number and a line are those of the refusal that document 01 asks for
 pub record Denied (s : List ℕ) (n line : ℕ) : Type 0 where

@@ -20,7 +20,7 @@ use Rattle.arith.proofs.NearestLaws.{nearest-scaled, nearest-exact}
 use Rattle.arith.proofs.Machine.{raw, num, _⟨*⟩_}
 use Rattle.sheet.specs.Firing.{Firing}
 use Rattle.sheet.specs.Block.{totalGas}
-use Rattle.document.specs.Limits.{Limits}
+use Rattle.document.specs.Lawful.{Lawful}
 use Rattle.formulas.specs.Rounding.{paper}
 use Rattle.formulas.specs.Formulas.{joule, q1, useful, withset}
 use Rattle.formulas.specs.Items.{Quantity, Item, item, shuttle, heats, heatCount}
@@ -40,7 +40,7 @@ over : {n x : ℤ} (k d : ℕ) → Is joule n x → nearest (n *ℤ pos k) d ≡
 over {n} k d p = sym (nearest-scaled (n *ℤ pos k) d (lit< tt)) ∙ ap (λ (z : ℤ). nearest z (joule * d)) (sym (expanded k p))
 
 -- the fuel's heat is some
-fuel-some : {f : Firing} {B : ℕ} {n : ℤ} → Limits f → Heat q1 f B n → pos 0 <ℤ n
+fuel-some : {f : Firing} {B : ℕ} {n : ℤ} → Lawful f → Heat q1 f B n → pos 0 <ℤ n
 unfolding q1
 fuel-some {f} {n = n} h p =
     let e = only (ltZ-yes tt) (p .is) (units {n = totalGas (f .stages) *ℤ f .fuel .heating *ℤ pos 100}) in
@@ -50,7 +50,7 @@ fuel-some {f} {n = n} h p =
     (prd (leq 100 (# 100) (v 0)) (leq 1 (# 3000) (v 1)) ∷ leq 300000 (# 100) (v 0) ∷ leq 10000 (# 3000) (v 1) ∷ [])
     (# 0) (v 0 ⊗ v 1 ⊗ # 100) tt (gas, h .heating .low) gas (h .heating .low))
 
-product-some : {f : Firing} → Limits f → pos 0 <ℤ f .product
+product-some : {f : Firing} → Lawful f → pos 0 <ℤ f .product
 product-some {f} h = under (f .product ∷ []) 0 (leq 1 (# 1000) (v 0) ∷ []) (# 0) (v 0) tt (h .product .low)
 
 -- ---- the places of the heats that the efficiencies are formed from, and of these
@@ -116,10 +116,10 @@ module _ {f : Firing} {number product : ℤ} {ns : List ℤ} (p : Found f number
 
   -- nothing overflows, and nothing is divided by zero
   pub per-tonne-can : (i : ℕ) → i < heatCount shuttle → Divides 10 (read-at i) product
-  per-tonne-can i h = record { fits = fit (within (read i h .size) ∷ []) (raw 0 ⟨*⟩ num (pos 10)) tt; some = rw (p .is-product) (product-some (p .limits)) }
+  per-tonne-can i h = record { fits = fit (within (read i h .size) ∷ []) (raw 0 ⟨*⟩ num (pos 10)) tt; some = rw (p .is-product) (product-some (p .rules)) }
 
   pub of-fuel-can : (i : ℕ) → i < heatCount shuttle → Divides 10000 (read-at i) (read-at fuel-at)
-  of-fuel-can i h = record { fits = fit (within (read i h .size) ∷ []) (raw 0 ⟨*⟩ num (pos 10000)) tt; some = fuel-some (p .limits) fuel }
+  of-fuel-can i h = record { fits = fit (within (read i h .size) ∷ []) (raw 0 ⟨*⟩ num (pos 10000)) tt; some = fuel-some (p .rules) fuel }
 
   -- the figures
   pub number-is : number ≡ getD (figures f) 0 (pos 0)

@@ -7,7 +7,7 @@ use lib.Signed.{_<ℤ_}
 use mir.Syntax.{w64}
 use mir.Val.{SFits}
 use Rattle.sheet.specs.Firing.{Firing}
-use Rattle.document.specs.Limits.{Limits}
+use Rattle.document.specs.Lawful.{Lawful}
 use Rattle.heat.specs.Balance.{Balanced}
 
 -- so many times a heat can be divided by a number
@@ -20,4 +20,4 @@ pub record Found (f : Firing) (number product : ℤ) (heats : List ℤ) : Type 0
   pub is-number : number ≡ f .number
   pub is-product : product ≡ f .product
   pub balanced : Balanced f heats
-  pub limits : Limits f
+  pub rules : Lawful f

@@ -12,7 +12,7 @@ use Rattle.sheet.specs.Firing.{Stuff, Ware, Water, Setter, Part}
 use Rattle.sheet.specs.Shown.{setter, part}
 use Rattle.document.specs.Quantities.{product, ambient, mass, temperature}
 use Rattle.document.specs.Rules.{Every}
-use Rattle.document.specs.Limits.{In, StuffIn, WareIn, WaterIn}
+use Rattle.document.specs.Lawful.{In, StuffIn, WareIn, WaterIn}
 use Rattle.formulas.specs.Tables.{rowOf, straightAt}
 use Rattle.formulas.specs.Figures.{Within}
 use Rattle.formulas.specs.Sizes.{greatest}

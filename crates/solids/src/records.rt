@@ -3,7 +3,7 @@ ghost use mathlib.Core.Path.{_≡_};
 ghost use Rattle.sheet.specs.Firing.{Firing};
 ghost use Rattle.sheet.specs.Shown.{ware as wareOf};
 ghost use Rattle.document.specs.Quantities.{temperature};
-ghost use Rattle.document.specs.Limits.{SetterIn, PartIn};
+ghost use Rattle.document.specs.Lawful.{SetterIn, PartIn};
 ghost use Rattle.formulas.specs.Rounding.{paper};
 ghost use Rattle.formulas.specs.Formulas.{joule, q3, q5, q8, x1, x5, x10};
 ghost use Rattle.formulas.specs.Figures.{Within, Figure};

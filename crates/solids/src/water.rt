@@ -4,7 +4,7 @@ ghost use lib.IntN.{ℤ, pos, _+ℤ_, _-ℤ_, _*ℤ_};
 ghost use Rattle.sheet.specs.Firing.{Firing};
 ghost use Rattle.sheet.specs.Shown.{water as waterOf};
 ghost use Rattle.document.specs.Quantities.{mass};
-ghost use Rattle.document.specs.Limits.{In};
+ghost use Rattle.document.specs.Lawful.{In};
 ghost use Rattle.formulas.specs.Rounding.{paper};
 ghost use Rattle.formulas.specs.Formulas.{joule, x2, x3, waterHeat};
 ghost use Rattle.formulas.specs.Figures.{Figure};

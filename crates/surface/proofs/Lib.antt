@@ -1,2 +1,4 @@
 pub mod Terms
+pub mod Grid
 pub mod Cells
+pub mod Coded

@@ -1,7 +1,6 @@
 -- The readings by section and stage, as the code keeps them, and what its steps ask.
 use Prim.Native.Nat.{ℕ, _≤_}
 use mathlib.Core.Path.{_≡_}
-use mathlib.Core.Bool.{true, cond}
 use mathlib.Core.List.{List, map}
 use lib.IntN.{ℤ, pos, _+ℤ_, _-ℤ_, _*ℤ_}
 use lib.ListN.{take, replicate}
@@ -12,12 +11,10 @@ use Rattle.sheet.specs.declared.Reading.{Reading}
 use Rattle.sheet.specs.declared.Sections.{Sections}
 use Rattle.sheet.specs.declared.Stages.{Stages}
 use Rattle.sheet.specs.Firing.{Stage, Section, Wall, Firing}
-use Rattle.sheet.specs.Shown.{section, laid, unread, wasRead}
+use Rattle.sheet.specs.Shown.{section, laid, unread}
 use Rattle.sheet.specs.Block.{stagesOf}
 use Rattle.document.specs.Quantities.{surface, nearAir, minutes}
-use Rattle.document.specs.Limits.{In, StageIn, SectionIn, Limits}
-use Rattle.formulas.specs.Rounding.{paper}
-use Rattle.formulas.specs.Formulas.{wallHeat}
+use Rattle.document.specs.Lawful.{In, StageIn, SectionIn, Lawful}
 use Rattle.formulas.specs.Sizes.{warmerMost, cellsMost}
 
 -- ---- steps
@@ -64,16 +61,9 @@ pub record LostIn (x : Reading) (s : Section) (t : Stage) : Type 0 where
 abbrev pub wallOf : Reading → Wall
 wallOf x = record { section = pos 0; stage = pos 0; surface = x .surface .0; air = x .air .0 }
 
--- the heat of a cell: none where nothing was read
-abbrev pub cellHeat : Reading → Section → Stage → ℤ
-cellHeat x s t = cond (wasRead x) (wallHeat paper s t (wallOf x)) (pos 0)
-
-pub record CellIn (x : Reading) (s : Section) (t : Stage) : Type 0 where
-  pub lost : wasRead x ≡ true → LostIn x s t
-
--- the firing that sections, stages and readings show
+-- the firing that sections, stages and readings show; it keeps every rule, so each of its sections was read in each of its stages
 pub record Seen (readings : List Reading) (x : Sections) (y : Stages) (f : Firing) : Type 0 where
   pub sections : f .sections ≡ map section (take (x .count .0) (x .lines))
   pub stages : f .stages ≡ stagesOf y
   pub laid : readings ≡ laid (f .sections) (replicate cellsMost unread) (f .walls)
-  pub limits : Limits f
+  pub rules : Lawful f

@@ -12,7 +12,7 @@ ghost use Rattle.formulas.specs.Formulas.{joule, placed, fourth, radiation, flu
 ghost use Rattle.formulas.specs.Figures.{Exact, Figure};
 ghost use Rattle.formulas.specs.Sizes.{placedMost, warmerMost, convectionMost, radiationMost, fluxMost, wallHeatMost, x9Most};
 ghost use Rattle.formulas.specs.Steps.{over};
-ghost use Rattle.surface.specs.Cells.{FourthFits, DifferenceFits, LostFits, RiseIn, HotIn, WallIn, LostIn, cellHeat, CellIn, Seen};
+ghost use Rattle.surface.specs.Cells.{FourthFits, DifferenceFits, LostFits, RiseIn, HotIn, WallIn, LostIn, Seen};
 use formulas::rounding::Quotient;
 use quantity::heat::Joules;
 use quantity::kiln::Area;
@@ -115,28 +115,20 @@ fn wall_heat(reading: Reading, section: Section, stage: Stage) -> Joules
     lost(flux_at(reading, section), section.area, stage.minutes).joules()
 }
 
-// The heat of a cell of the readings, where something was read.
-fn cell_heat(reading: Reading, section: Section, stage: Stage) -> Joules
-    requires { ⌜ CellIn reading (sectionOf section) (stageOf stage) ⌝ }
-    ensures { λ r. ⌜ Figure joule wallHeatMost (r .0) (cellHeat reading (sectionOf section) (stageOf stage)) ⌝ }
-{
-    if reading.read == 1 {
-        return wall_heat(reading, section, stage);
-    }
-    Joules(0)
-}
-
-// The heat that leaves through the surface: every cell of the sections that there are, stage by stage.
+// The heat that leaves through the surface: each section that there is, in each stage that there is.
 pub fn x9(readings: [Reading; 144], sections: Sections, stages: Stages) -> Joules
     requires { ⌜ ((f : Firing) × Seen readings sections stages f) ⌝ }
     ensures { λ r. ⌜ ((f : Firing) → Seen readings sections stages f → Figure joule x9Most (r .0) (x9 f paper)) ⌝ }
 {
     let places = sections.lines;
     let times = stages.lines;
-    let cells = held(sections.count.0, 12) * 12;
+    let rows = held(sections.count.0, 12);
+    let columns = held(stages.count.0, 12);
     let mut sum = Joules(0);
-    for k in 0..cells {
-        sum = sum.plus(cell_heat(readings[k], places[k / 12], times[k % 12]));
+    for i in 0..rows {
+        for j in 0..columns {
+            sum = sum.plus(wall_heat(readings[i * 12 + j], places[i], times[j]));
+        }
     }
     sum
 }

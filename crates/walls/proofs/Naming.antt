@@ -14,7 +14,7 @@ use Rattle.sheet.specs.Shown.{before, cell}
 use Rattle.document.specs.Schema.{Row}
 use Rattle.document.specs.Tests.{when}
 use Rattle.document.specs.Document01.{wallLine}
-use Rattle.document.specs.Limits.{In}
+use Rattle.document.specs.Lawful.{In}
 use Rattle.document.specs.Quantities.{stageNumber}
 use Rattle.document.specs.Reader.{readLine}
 use Rattle.document.specs.Rows.{wallOf}

@@ -14,7 +14,7 @@ use Rattle.sheet.specs.declared.Reading.{Reading}
 use Rattle.sheet.specs.Firing.{Section, Wall}
 use Rattle.sheet.specs.Shown.{same, before, cell, reading, unread, wasRead, laid}
 use Rattle.document.specs.Quantities.{stageNumber}
-use Rattle.document.specs.Limits.{In}
+use Rattle.document.specs.Lawful.{In}
 use Rattle.document.specs.Rules.{Every}
 use Rattle.document.specs.Tests.{isRead}
 use Rattle.walls.specs.Cells.{Placed, readAt}

@@ -7,7 +7,7 @@ use Rattle.sheet.specs.declared.Reading.{Reading}
 use Rattle.sheet.specs.Firing.{Section, Wall}
 use Rattle.sheet.specs.Shown.{before, unread, wasRead}
 use Rattle.document.specs.Quantities.{stageNumber}
-use Rattle.document.specs.Limits.{In}
+use Rattle.document.specs.Lawful.{In}
 
 -- A wall whose section is listed and whose stage is one of twelve.
 pub record Placed (S : List Section) (w : Wall) : Type 0 where

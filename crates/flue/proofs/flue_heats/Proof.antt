@@ -8,7 +8,7 @@ use lib.ListN.{length, getD}
 use Rattle.sheet.specs.declared.Stage.{Stage as Stageˢ}
 use Rattle.sheet.specs.Shown.{stage}
 use Rattle.sheet.proofs.Sums.{unmapped, blankStage}
-use Rattle.document.specs.Limits.{StageIn}
+use Rattle.document.specs.Lawful.{StageIn}
 use Rattle.formulas.specs.Rounding.{paper}
 use Rattle.formulas.specs.Formulas.{joule, flueHeat, monoxideHeat, x7, x8}
 use Rattle.document.specs.Quantities.{stagesMost}

@@ -5,7 +5,7 @@ use Rattle.limits.proofs.Laws.{passed}
 use Rattle.sheet.specs.Firing.{Gas}
 use Rattle.sheet.specs.Block.{totalGas, stagesOf}
 use Rattle.document.specs.Quantities.{gasTotal}
-use Rattle.document.specs.Limits.{In}
+use Rattle.document.specs.Lawful.{In}
 use Rattle.burning.specs.Mixture.{Warmed}
 use Rattle.heat.proofs.Kept.{own, field}
 use Rattle.heat.proofs.fuel_heat.Statement.{statement}

@@ -12,7 +12,7 @@ use Rattle.heat.proofs.heats_of.Statement.{statement}
 use Rattle.heat.proofs.heats_of.Tie as tie
 
 seen : {x : Sheet} {f : Firing} → Kept x f → Seen (x .readings) (x .sections) (x .stages) f
-seen k = record { sections = field k (λ g. g .sections); stages = field k (λ g. g .stages); laid = k .shows .readings; limits = k .limits }
+seen k = record { sections = field k (λ g. g .sections); stages = field k (λ g. g .stages); laid = k .shows .readings; rules = k .rules }
 
 -- the start, from where the base temperature is known
 abbrev S : tie.After-degrees → tie.Start

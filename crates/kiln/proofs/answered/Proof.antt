@@ -14,7 +14,7 @@ use Rattle.heat.proofs.Kept.{field}
 use Rattle.report.specs.Figures.{Found}
 use Rattle.report.proofs.Room.{each-fits}
 use Rattle.due.proofs.Places.{is-good, is-bad}
-use Rattle.reader.proofs.Answering.{Firm, firm-judged, firm-limits, Denied, denied-judged, denied-small}
+use Rattle.reader.proofs.Answering.{Firm, firm-judged, firm-lawful, Denied, denied-judged, denied-small}
 use Rattle.answer.specs.Answer.{refusedAs, fitted, placed}
 use Rattle.kiln.proofs.Answering.{answer-good, buffer-good, short-good, answer-bad, buffer-bad, short-bad}
 use Rattle.kiln.proofs.answered.Statement.{statement}
@@ -50,7 +50,7 @@ refusal c =
     denied-judged _ (j .result) (j .ensures) (is-bad (j .result .place) (c .if1 .left))
 
 kept : {s : List ℕ} {x : Sheet} (a : Firm s x) → Kept x (firingOf (a .sheet))
-kept a = record { shows = a .shows; limits = firm-limits a }
+kept a = record { shows = a .shows; rules = firm-lawful a }
 
 balance-requires : tie.Need-balance-requires
 balance-requires c κs = (firingOf (firing c .sheet), kept (firing c))
@@ -61,7 +61,7 @@ found : (c : tie.After-balance) →
     Found (firingOf (firing (c .before) .sheet)) (head .firing .0) (head .product .0) (c .balance .result)
 found c =
     let k = kept (firing (c .before)) in
-    record { is-number = sym (field k (λ f. f .number)); is-product = sym (field k (λ f. f .product)); balanced = c .balance .ensures _ k; limits = k .limits }
+    record { is-number = sym (field k (λ f. f .number)); is-product = sym (field k (λ f. f .product)); balanced = c .balance .ensures _ k; rules = k .rules }
 
 figures-requires : tie.Need-figures-requires
 figures-requires c κs = (firingOf (firing (c .before) .sheet), found c)

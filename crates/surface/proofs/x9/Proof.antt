@@ -1,95 +1,100 @@
--- The loop's invariant: what is summed so far is the sum over the first k cells; over all of them it is the sum over the walls of the sheet.
--- Assumes nothing.
-use Prim.Native.Nat.{_≤_, _-_}
+-- The loops' invariant: what is summed so far is the heat of the first sections in all stages, and of the next one in the first stages; over
+-- all of them it is the sum over the walls of the sheet. Assumes nothing.
+use Prim.Native.Nat.{_≤_, _<_, _-_, _+_, _*_, min}
+use mathlib.Core.Path.{_≡_, refl}
 use native.Mathlib.Omega.{arith}
 use borrow.Author.Needs.{needs}
+use lib.ListN.{length, getD}
+use Rattle.sheet.specs.Firing.{Wall}
+use Rattle.sheet.specs.Shown.{unread}
+use Rattle.sheet.proofs.Sums.{unmapped}
 use Rattle.formulas.specs.Formulas.{joule}
 use Rattle.formulas.specs.Sizes.{cellsMost, wallHeatMost}
-use Rattle.formulas.proofs.Sums.{Running, none, more, more-fits, at-most}
-use Rattle.surface.proofs.Cells.{sumTo, sum-next, coded, cell-in, coded-first}
+use Rattle.formulas.proofs.Sums.{Running, more-fits, at-most}
+use Rattle.surface.specs.Cells.{wallOf}
+use Rattle.surface.proofs.Grid.{grid, Reached, begun, row-begun, cell-more, row-ended}
+use Rattle.surface.proofs.Coded.{coded, cell-in, coded-total}
 use Rattle.surface.proofs.x9.Statement.{statement}
 use Rattle.surface.proofs.x9.Tie as tie
 
+abbrev Inv-loop2 : tie.InvT-loop2
+Inv-loop2 readings places times rows columns sum₀ i j₀ sum j =
+    (j ≤ columns) × (columns ≤ 12) × (i < rows) × (rows ≤ 12) × Reached joule wallHeatMost (coded readings places times) columns i j (sum .0)
+
+abbrev μ-loop2 : tie.MeasureT-loop2
+μ-loop2 readings places times rows columns sum₀ i j₀ sum j = columns - j
+
 abbrev Inv-loop : tie.InvT-loop
-Inv-loop readings places times cells sum₀ k₀ sum k =
-    (k ≤ cells) × (cells ≤ cellsMost) × Running joule wallHeatMost k (sum .0) (sumTo (coded readings places times) k)
+Inv-loop readings places times rows columns sum₀ i₀ sum i =
+    (i ≤ rows) × (rows ≤ 12) × (columns ≤ 12) × Running joule wallHeatMost (i * 12) (sum .0) (grid (coded readings places times) i columns)
 
 abbrev μ-loop : tie.MeasureT-loop
-μ-loop readings places times cells sum₀ k₀ sum k = cells - k
+μ-loop readings places times rows columns sum₀ i₀ sum i = rows - i
 
-mul-cells : tie.Need-mul-cells Inv-loop μ-loop
-mul-cells c = omega arith
+-- ---- the places: the start, from where both counts are known; the outer loop, from the inner one; this one, from where a cell is read
+abbrev start : tie.After-held2 Inv-loop2 μ-loop2 Inv-loop μ-loop → tie.Start Inv-loop2 μ-loop2 Inv-loop μ-loop
+start c = c .before .before .before .before
 
-loop-holds : tie.Need-loop-holds Inv-loop μ-loop
-unfolding sumTo
-loop-holds c = (omega arith, omega arith, none)
+abbrev outer : tie.At-loop2 Inv-loop2 μ-loop2 Inv-loop μ-loop → tie.At-loop Inv-loop2 μ-loop2 Inv-loop μ-loop
+outer c = c .before .before
 
-held-requires : tie.Need-held-requires Inv-loop μ-loop
-held-requires c κs = search needs
+abbrev inner : tie.After-wall-heat-arg3 Inv-loop2 μ-loop2 Inv-loop μ-loop → tie.At-loop2 Inv-loop2 μ-loop2 Inv-loop μ-loop
+inner c = c .before .before .before .before
 
-mul-cell-heat : tie.Need-mul-cell-heat Inv-loop μ-loop
-mul-cell-heat c = omega arith
+-- both blocks have twelve places
+long : (s : tie.Start Inv-loop2 μ-loop2 Inv-loop μ-loop) → length (s .args .sections .lines) ≡ 12
+long s = search (needs, unmapped)
 
-array-copy-out-cell-heat : tie.Need-array-copy-out-cell-heat Inv-loop μ-loop
-array-copy-out-cell-heat c = omega arith
+wide : (s : tie.Start Inv-loop2 μ-loop2 Inv-loop μ-loop) → length (s .args .stages .lines) ≡ 12
+wide s = search (needs, unmapped)
 
-mul-cell-heat-2 : tie.Need-mul-cell-heat-2 Inv-loop μ-loop
-mul-cell-heat-2 c = omega arith
+-- what was read in the cell
+abbrev read : tie.At-loop2 Inv-loop2 μ-loop2 Inv-loop μ-loop → Wall
+read c = wallOf (getD (start (outer c .before) .args .t1) (outer c .loop .i * 12 + c .loop2 .j) unread)
 
-array-copy-out-cell-heat-2 : tie.Need-array-copy-out-cell-heat-2 Inv-loop μ-loop
-array-copy-out-cell-heat-2 c = omega arith
-
-mul-cell-heat-3 : tie.Need-mul-cell-heat-3 Inv-loop μ-loop
-mul-cell-heat-3 c = omega arith
-
-array-copy-out-cell-heat-3 : tie.Need-array-copy-out-cell-heat-3 Inv-loop μ-loop
-array-copy-out-cell-heat-3 c = omega arith
-
-cell-heat-requires : tie.Need-cell-heat-requires Inv-loop μ-loop
-cell-heat-requires c κs = let l = c .before .before .before .before in cell-in (l .before .before .before .before .pre .1) (l .loop .k)
-
--- the loop, from where a cell's heat is known
-abbrev L : tie.After-cell-heat Inv-loop μ-loop → tie.At-loop Inv-loop μ-loop
-L c = let call = c .before in call .before .before .before .before
-
-plus-requires : tie.Need-plus-requires Inv-loop μ-loop
-plus-requires c κs = more-fits (L c .loop .inv .2) (c .cell-heat .ensures) cellsMost (omega arith) tt
-
-add-k : tie.Need-add-k Inv-loop μ-loop
-add-k c = search needs
-
-loop-less : tie.Need-loop-less Inv-loop μ-loop
-loop-less c = search needs
-
-loop-again : tie.Need-loop-again Inv-loop μ-loop
-loop-again c =
-    let l = L (c .before) .loop in
-    (omega arith, l .inv .1, rw (c .plus .ensures, sum-next) (more (l .inv .2) (c .before .cell-heat .ensures)))
-
-returns : tie.Need-returns Inv-loop μ-loop
-returns c =
+loop2-holds : tie.Need-loop2-holds Inv-loop2 μ-loop2 Inv-loop μ-loop
+loop2-holds c =
     let l = c .before .loop in
-    let all = at-most cellsMost (omega arith) (l .inv .2) in
-    λ f seen. rw (← coded-first seen (l .k) (omega arith) (λ h. omega arith)) all
+    (omega arith, omega arith, omega arith, omega arith, row-begun joule wallHeatMost _ _ (l .i) (l .inv .3))
+
+wall-heat-requires : tie.Need-wall-heat-requires Inv-loop2 μ-loop2 Inv-loop μ-loop
+wall-heat-requires c κs =
+    let l = inner c in
+    let o = outer l in
+    let s = start (o .before) in
+    cell-in (s .pre .1) (long s) (wide s) (o .loop .i) (l .loop2 .j) (omega arith) (omega arith)
+
+plus-requires : tie.Need-plus-requires Inv-loop2 μ-loop2 Inv-loop μ-loop
+plus-requires c κs =
+    let l = inner (c .before) in
+    more-fits (l .loop2 .inv .4) (c .wall-heat .ensures (read l) refl refl) cellsMost (omega arith) tt
+
+loop2-again : tie.Need-loop2-again Inv-loop2 μ-loop2 Inv-loop μ-loop
+loop2-again c =
+    let l = inner (c .before .before) in
+    let heat = c .before .wall-heat .ensures (read l) refl refl in
+    let more = cell-more joule wallHeatMost _ _ (outer l .loop .i) (l .loop2 .j) (l .loop2 .inv .4) heat in
+    (omega arith, omega arith, omega arith, omega arith, rw (c .plus .ensures) more)
+
+loop-again : tie.Need-loop-again Inv-loop2 μ-loop2 Inv-loop μ-loop
+loop-again c =
+    let l = c .before in
+    let row = row-ended joule wallHeatMost _ _ (outer l .loop .i) (l .loop2 .j) (omega arith) (omega arith) (l .loop2 .inv .4) in
+    (omega arith, omega arith, omega arith, row)
+
+returns : tie.Need-returns Inv-loop2 μ-loop2 Inv-loop μ-loop
+returns c =
+    let o = c .before in
+    let s = start (o .before) in
+    let rows : min (s .args .sections .count .0) 12 ≡ o .loop .i = omega arith in
+    let all = at-most cellsMost (omega arith) (o .loop .inv .3) in
+    λ f seen. rw (← coded-total seen (long s) (wide s), rows, ← o .before .held2 .ensures) all
 
 pub x9-spec : {M : Type 1} → statement M
 x9-spec =
     tie.close
-    (tie.spec
-    Inv-loop
-    μ-loop
-    held-requires
-    mul-cells
-    loop-holds
-    mul-cell-heat
-    array-copy-out-cell-heat
-    mul-cell-heat-2
-    array-copy-out-cell-heat-2
-    mul-cell-heat-3
-    array-copy-out-cell-heat-3
-    cell-heat-requires
-    plus-requires
-    add-k
-    loop-less
-    loop-again
-    returns)
+    (tie.spec Inv-loop2 μ-loop2 Inv-loop μ-loop (λ c κs. search needs) (λ c κs. search needs)
+    (λ c. (omega arith, omega arith, omega arith, begun joule wallHeatMost _ _)) loop2-holds
+    (λ c. omega arith) (λ c. omega arith) (λ c. omega arith) (λ c. omega arith)
+    (λ c. omega arith) (λ c. omega arith) (λ c. omega arith) (λ c. omega arith)
+    wall-heat-requires plus-requires (λ c. search needs) (λ c. search needs) loop2-again (λ c. search needs) (λ c. search needs) loop-again returns)

@@ -12,7 +12,7 @@ use Rattle.formulas.specs.Items.{shuttle}
 use Rattle.formulas.specs.Report.{heatKeys, linesText, joulesText}
 use Rattle.heat.specs.Balance.{Kept}
 use Rattle.report.proofs.Printing.{joules-are}
-use Rattle.reader.proofs.Answering.{Firm, firm, firm-limits, Denied, denied, denied-small}
+use Rattle.reader.proofs.Answering.{Firm, firm, firm-lawful, Denied, denied, denied-small}
 use Rattle.answer.specs.declared.Answer.{Answer}
 use Rattle.answer.specs.Answer.{refusedText}
 use Rattle.joules.proofs.Telling.{heats-told, refusal-told}
@@ -31,7 +31,7 @@ abbrev firing : (c : tie.Then1) → Firm (sheet (c .before .before)) (c .before 
 firing c = let o = c .before .before in firm (sheet o) (o .read .result) (o .read .ensures) (c .if1 .taken)
 
 kept : (c : tie.Then1) → Kept (c .before .before .read .result .sheet) (firingOf (firing c .sheet))
-kept c = record { shows = firing c .shows; limits = firm-limits (firing c) }
+kept c = record { shows = firing c .shows; rules = firm-lawful (firing c) }
 
 balance-requires : tie.Need-balance-requires
 balance-requires c κs = let t = c .before .before in (firingOf (firing t .sheet), kept t)

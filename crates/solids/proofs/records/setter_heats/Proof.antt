@@ -11,7 +11,7 @@ use Rattle.sheet.specs.Firing.{Setter}
 use Rattle.sheet.specs.Shown.{setter}
 use Rattle.sheet.proofs.Sums.{unmapped}
 use Rattle.document.specs.Quantities.{settersMost}
-use Rattle.document.specs.Limits.{SetterIn}
+use Rattle.document.specs.Lawful.{SetterIn}
 use Rattle.formulas.specs.Rounding.{paper}
 use Rattle.formulas.specs.Formulas.{joule, sensible, q3, x5}
 use Rattle.formulas.specs.Sizes.{sensibleMost}

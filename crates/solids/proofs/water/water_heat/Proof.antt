@@ -6,7 +6,7 @@ use lib.Dec.{lit≤}
 use lib.IntN.{ℤ, pos}
 use Rattle.arith.proofs.Machine.{Mx, upto, raw, num, _⟨+⟩_, _⟨-⟩_, _⟨*⟩_}
 use Rattle.document.specs.Quantities.{temperature}
-use Rattle.document.specs.Limits.{In}
+use Rattle.document.specs.Lawful.{In}
 use Rattle.solids.specs.Steps.{BoiledFits}
 use Rattle.formulas.specs.Formulas.{joule, waterHeat}
 use Rattle.formulas.proofs.Units.{units}

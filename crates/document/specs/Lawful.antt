@@ -1,26 +1,34 @@
--- What holds of a firing that keeps document 01's rules, by name: the form in which the formulas' proofs use them. Nothing here is believed:
--- `sheet-limits` derives it from the rules.
+-- ALL RULES OF A FIRING, by name and in plain words: each quantity between its least and its greatest, and document 01's rules 4 to 10.
+-- The firing of every sheet that is accepted keeps these (`sheet-lawful`).
 use Prim.Native.Nat.{_≤_}
 use mathlib.Core.Path.{_≡_}
-use mathlib.Core.List.{List}
+use mathlib.Core.List.{List, [], _∷_}
 use lib.ListN.{length}
 use lib.IntN.{ℤ, pos}
 use lib.Signed.{_≤ℤ_, _<ℤ_}
 use Rattle.sheet.specs.Firing.{Stuff, Gas, Ware, Water, Stage, Setter, Part, Section, Wall, Firing}
 use Rattle.sheet.specs.Block.{totalGas}
 use Rattle.document.specs.Schema.{Field}
-use Rattle.document.specs.Quantities.{product, ambient, heating, fuelTemperature, share, moisture, mass, temperature, material, capacity, flue, cubicMetres, excess, monoxide, minutes, sectionNumber, place, area, stageNumber, surface, nearAir, gasTotal, stagesMost, settersMost, partsMost, sectionsMost, wallsMost}
+use Rattle.document.specs.Quantities.{edition, firing, product, ambient, heating, fuelTemperature, share, moisture, mass, temperature, material, capacity, flue, cubicMetres, excess, monoxide, minutes, sectionNumber, place, area, stageNumber, surface, nearAir, gasTotal, stagesMost, settersMost, partsMost, sectionsMost, wallsMost}
 use Rattle.document.specs.Tests.{sumOf, weigh, airWeights}
-use Rattle.document.specs.Rules.{Every, NoTwo, Listed, AllRead}
+use Rattle.document.specs.Rules.{Every, NoTwo, OwnHeat, SameNumber, Listed, SameReading, AllRead}
 use Rattle.document.specs.Rows.{gasRow}
 
 pub record In (f : Field) (z : ℤ) : Type 0 where
   pub low : f .least ≤ℤ z
   pub high : z ≤ℤ f .greatest
 
+-- as many numbers as fields, each in its range
+abbrev pub InRanges : List Field → List ℤ → Type 0
+InRanges [] [] = Unit {0}
+InRanges [] (z ∷ zs) = ⊥
+InRanges (f ∷ fs) [] = ⊥
+InRanges (f ∷ fs) (z ∷ zs) = In f z × InRanges fs zs
+
 pub record StuffIn (x : Stuff) : Type 0 where
   pub material : In material (x .material)
   pub c : In capacity (x .c)
+  pub own : OwnHeat (x .material) (x .c)  -- 4
 
 pub record WareIn (x : Ware) : Type 0 where
   pub green : In mass (x .green)
@@ -56,13 +64,13 @@ pub record SectionIn (x : Section) : Type 0 where
   pub place : In place (x .place)
   pub area : In area (x .area)
 
--- the shares, each in its range, adding to 10,000, with theoretical air above 0
+-- 5: the shares, each in its range, adding to 10,000, with theoretical air above 0
 pub record GasIn (g : Gas) : Type 0 where
   pub each : Every (In share) (gasRow g .numbers)
   pub sum : sumOf (gasRow g .numbers) ≡ pos 10000
   pub air : pos 0 <ℤ weigh airWeights (gasRow g .numbers)
 
--- a reading at a listed section in one of the stages, not colder than the air near it
+-- 6, 9: a reading at a listed section in one of the stages, not colder than the air near it
 pub record WallIn (f : Firing) (w : Wall) : Type 0 where
   pub section : In sectionNumber (w .section)
   pub stage : In stageNumber (w .stage)
@@ -72,11 +80,10 @@ pub record WallIn (f : Firing) (w : Wall) : Type 0 where
   pub staged : w .stage ≤ℤ pos (length (f .stages))
   pub warmer : w .air ≤ℤ w .surface
 
--- no two readings at one section in one stage
-abbrev pub Apart : List Wall → Type 0
-Apart walls = NoTwo (λ x w. (x .section ≡ w .section) × (x .stage ≡ w .stage)) walls
-
-pub record Limits (f : Firing) : Type 0 where
+-- THE RULES
+pub record Lawful (f : Firing) : Type 0 where
+  pub edition : In edition (f .edition)
+  pub number : In firing (f .number)
   pub product : In product (f .product)
   pub ambient : In ambient (f .ambient)
   pub heating : In heating (f .fuel .heating)
@@ -87,18 +94,18 @@ pub record Limits (f : Firing) : Type 0 where
   pub water : WaterIn (f .water)
   pub clay : In mass (f .clay)
   pub stages : Every StageIn (f .stages)
+  pub stagesSome : 1 ≤ length (f .stages)
   pub stagesMost : length (f .stages) ≤ stagesMost
-  pub total : In gasTotal (totalGas (f .stages))
+  pub total : In gasTotal (totalGas (f .stages))  -- 10
   pub setters : Every SetterIn (f .setters)
   pub settersMost : length (f .setters) ≤ settersMost
   pub parts : Every PartIn (f .parts)
   pub partsMost : length (f .parts) ≤ partsMost
   pub sections : Every SectionIn (f .sections)
+  pub sectionsSome : 1 ≤ length (f .sections)
   pub sectionsMost : length (f .sections) ≤ sectionsMost
+  pub numbered : NoTwo SameNumber (f .sections)  -- 6
   pub walls : Every (WallIn f) (f .walls)
   pub wallsMost : length (f .walls) ≤ wallsMost
-  pub apart : Apart (f .walls)
-
--- every section has a reading in every stage, which are numbered from 1
-abbrev pub Measured : Firing → Type 0
-Measured f = AllRead (f .stages) (f .sections) (f .walls)
+  pub once : NoTwo SameReading (f .walls)  -- 7
+  pub read : AllRead (f .stages) (f .sections) (f .walls)  -- 8

@@ -1,0 +1,98 @@
+-- What the code sums, section by section and stage by stage, is x9. Assumes nothing.
+use Prim.Native.Nat.{ℕ, zero, suc, _+_, _*_, _/_, _%_, _≤_, _<_, min}
+use mathlib.Core.Path.{_≡_, refl, sym, ap, _∙_, subst}
+use mathlib.Core.Bool.{true}
+use mathlib.Core.List.{List, [], _∷_, map}
+use native.Mathlib.Nat.{le-of-suc-le-suc, not-suc-le-zero}
+use native.Mathlib.Omega.{arith}
+use lib.IntN.{ℤ, pos}
+use lib.ListN.{length, getD, take}
+use Rattle.sheet.specs.declared.Reading.{Reading}
+use Rattle.sheet.specs.declared.Section.{Section as Sectionˢ}
+use Rattle.sheet.specs.declared.Stage.{Stage as Stageˢ}
+use Rattle.sheet.specs.declared.Sections.{Sections}
+use Rattle.sheet.specs.declared.Stages.{Stages}
+use Rattle.sheet.specs.Firing.{Firing}
+use Rattle.sheet.specs.Shown.{stage, section, unread, wasRead}
+use Rattle.sheet.proofs.Sums.{blankStage}
+use Rattle.document.specs.Lawful.{StageIn, SectionIn}
+use Rattle.document.proofs.Lists.{every-at}
+use Rattle.formulas.specs.Rounding.{paper}
+use Rattle.formulas.specs.Formulas.{noSection, noStage, wallHeat, x9}
+use Rattle.surface.specs.Cells.{wallOf, LostIn, Seen}
+use Rattle.surface.proofs.Grid.{sumTo, grid, in-grid}
+use Rattle.surface.proofs.Cells.{Lies, heatAt, cellsOf, cell-lies, cell-read, cell-none, cells-total}
+
+abbrev blankSection : Sectionˢ
+blankSection = record { number = record { 0 = 0 }; place = record { 0 = 0 }; area = record { 0 = pos 0 } }
+
+-- a line of a block, as the firing shows it
+shown-at : {A B : Type 0} (g : A → B) (l : List A) (n i : ℕ) (d : A) (e : B) → i < length (map g (take n l)) → getD (map g (take n l)) i e ≡ g (getD l i d)
+shown-at g [] zero i d e h = absurd (not-suc-le-zero h)
+shown-at g [] (suc n) i d e h = absurd (not-suc-le-zero h)
+shown-at g (a ∷ l) zero i d e h = absurd (not-suc-le-zero h)
+shown-at g (a ∷ l) (suc n) zero d e h = refl
+shown-at g (a ∷ l) (suc n) (suc i) d e h = shown-at g l n i d e (le-of-suc-le-suc h)
+
+shown-length : {A B : Type 0} (g : A → B) (n : ℕ) (l : List A) → length (map g (take n l)) ≡ min n (length l)
+shown-length g zero [] = refl
+shown-length g zero (a ∷ l) = omega arith
+shown-length g (suc n) [] = omega arith
+shown-length g (suc n) (a ∷ l) = omega (arith, shown-length g n l)
+
+-- the heat of a section in a stage, as the code forms it
+abbrev pub coded : List Reading → List Sectionˢ → List Stageˢ → ℕ → ℕ → ℤ
+coded readings places times i j =
+    wallHeat paper (section (getD places i blankSection)) (stage (getD times j blankStage)) (wallOf (getD readings (i * 12 + j) unread))
+
+module _ {readings : List Reading} {x : Sections} {y : Stages} {f : Firing} (seen : Seen readings x y f)
+    (long : length (x .lines) ≡ 12) (wide : length (y .lines) ≡ 12) where
+  rows : length (f .sections) ≡ min (x .count .0) 12
+  rows = rw (seen .sections) (shown-length section (x .count .0) (x .lines) ∙ ap (min (x .count .0)) long)
+
+  columns : length (f .stages) ≡ min (y .count .0) 12
+  columns = rw (seen .stages) (shown-length stage (y .count .0) (y .lines) ∙ ap (min (y .count .0)) wide)
+
+  module _ (i j : ℕ) (h : i < min (x .count .0) 12) (k : j < min (y .count .0) 12) where
+    here : i < length (f .sections)
+    here = omega (arith, rows)
+
+    there : j < length (f .stages)
+    there = omega (arith, columns)
+
+    read : wasRead (getD readings (i * 12 + j) unread) ≡ true
+    read = rw (seen .laid) (cell-read f (seen .rules) i j here there)
+
+    section-at : getD (f .sections) i noSection ≡ section (getD (x .lines) i blankSection)
+    section-at = rw (seen .sections) (shown-at section (x .lines) (x .count .0) i blankSection noSection (rw (seen .sections) at here))
+
+    stage-at : getD (f .stages) j noStage ≡ stage (getD (y .lines) j blankStage)
+    stage-at = rw (seen .stages) (shown-at stage (y .lines) (y .count .0) j blankStage noStage (rw (seen .stages) at there))
+
+    -- what is asked of a cell
+    pub cell-in : LostIn (getD readings (i * 12 + j) unread) (section (getD (x .lines) i blankSection)) (stage (getD (y .lines) j blankStage))
+    cell-in =
+        let lies = rw (sym (seen .laid)) at (cell-lies f (seen .rules) (i * 12 + j) (cell-read f (seen .rules) i j here there)) in
+        record {
+          wall = record { reading = lies .reading; section = subst SectionIn section-at (every-at SectionIn (f .sections) i noSection (seen .rules .sections) here) };
+          stage = subst StageIn stage-at (every-at StageIn (f .stages) j noStage (seen .rules .stages) there);
+        }
+
+    coded-is : coded readings (x .lines) (y .lines) i j ≡ heatAt f readings (i * 12 + j)
+    coded-is =
+        let a : (i * 12 + j) / 12 ≡ i = omega arith in
+        let b : (i * 12 + j) % 12 ≡ j = omega arith in
+        rw (read, a, b, section-at, stage-at)
+
+  -- THE CODE'S SUM IS x9
+  pub coded-total : grid (coded readings (x .lines) (y .lines)) (min (x .count .0) 12) (min (y .count .0) 12) ≡ x9 f paper
+  coded-total =
+      let none : (k : ℕ) → (k / 12 < length (f .sections) → k % 12 < length (f .stages) → ⊥) → heatAt f readings k ≡ pos 0 =
+      λ k n. ap (λ (l : List Reading). heatAt f l k) (seen .laid) ∙ cell-none f (seen .rules) k n
+      in
+      in-grid (heatAt f readings) (coded readings (x .lines) (y .lines)) (min (x .count .0) 12) (min (y .count .0) 12) (omega arith) (omega arith)
+      coded-is
+      (λ i j h k. none (i * 12 + j) (λ a b. omega (arith, rows)))
+      (λ i j h k. none (i * 12 + j) (λ a b. omega (arith, columns)))
+      ∙ ap (λ (l : List Reading). sumTo (heatAt f l) 144) (seen .laid)
+      ∙ cells-total f (seen .rules)
