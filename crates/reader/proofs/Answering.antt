@@ -6,7 +6,7 @@ use mathlib.Core.List.{List, [], _∷_}
 use native.Mathlib.Omega.{arith}
 use lib.Dec.{ltb, lit≤}
 use lib.ListN.{length, length-drop}
-use borrow.Author.Tests.{lt-ltb, le-ltb, ltb-true, ltb-false}
+use borrow.Author.Tests.{lt-ltb, le-ltb, ltb-true, ltb-false, eqb-true}
 use Rattle.sheet.specs.declared.Reading.{Reading}
 use Rattle.sheet.specs.declared.Refusal.{Refusal}
 use Rattle.sheet.specs.declared.Refusal.the-variants.{TooLong, Surplus, Missing, GasTotal}
@@ -32,8 +32,8 @@ use Rattle.due.specs.declared.Place.{Place}
 use Rattle.reader.specs.declared.all.Lines.{Lines}
 use Rattle.reader.specs.All.{Held, Sized}
 use Rattle.reader.specs.declared.whole.Outcome.{Outcome}
-use Rattle.due.specs.Place.{good, refusedAt, Fair, Ready, Meets, After}
-use Rattle.reader.specs.Whole.{top, openingAs, gasOf, wholeAs, verdictAs, Judged, Answers}
+use Rattle.due.specs.Place.{good, refusedAt, Fair, Ready, Stands, Meets, After}
+use Rattle.reader.specs.Whole.{top, lineEnded, bottom, openingAs, gasOf, wholeAs, verdictAs, Judged, Answers}
 use Rattle.due.proofs.Places.{not-both, refused-bad}
 
 -- rule 10's sum, and rule 8's test, by the struct
@@ -50,30 +50,39 @@ read-same {x} {sheet} h z =
     ∙ ap (λ (c : List Reading). allRead c (length (sectionsIn sheet)) (length (stagesIn sheet))) (sym (h .shows .readings))
     ∙ ap₂ (allRead (x .readings)) (h .sectionsAre) (h .stagesAre)
 
-module _ {x : Sheetˢ} {sheet : Sheet} (h : Held x sheet) (z : Sized x) (q : Place) (sound : good q ≡ true) where
+module _ {x : Sheetˢ} {sheet : Sheet} (h : Held x sheet) (z : Sized x) (s : List ℕ) (q : Place) (is : q ≡ bottom s) where
   abbrev said-of : Bool → Bool → Answer
   said-of gas read = on (when (not gas) GasTotal else when (not read) Missing) (Good sheet) (λ r. Refused r 0)
 
-  rules : (gas read : Bool) → Judged (said-of gas read) (record { place = cond gas (cond read q (refusedAt Missing 0)) (refusedAt GasTotal 0); sheet = x })
-  rules true true = (sound, h .shows, h .trimmed)
+  rules : (gas read : Bool) → Judged s (said-of gas read) (record { place = cond gas (cond read q (refusedAt Missing 0)) (refusedAt GasTotal 0); sheet = x })
+  rules true true = (is, h .shows, h .trimmed)
   rules true false = refl
   rules false read = refl
 
-  whole-judged : Judged (on (document .whole sheet) (Good sheet) (λ r. Refused r 0)) (record { place = wholeAs q x; sheet = x })
+  whole-judged : Judged s (on (document .whole sheet) (Good sheet) (λ r. Refused r 0)) (record { place = wholeAs q x; sheet = x })
   whole-judged =
       let gas = ap (within gasTotal) (gas-same h) in
       let read = read-same h z in
-      subst (λ (a : Answer). Judged a (record { place = wholeAs q x; sheet = x })) (sym (ap₂ said-of gas read))
+      subst (λ (a : Answer). Judged s a (record { place = wholeAs q x; sheet = x })) (sym (ap₂ said-of gas read))
       (rules (within gasTotal (gasOf x)) (allRead (x .readings) (x .sections .count .0) (x .stages .count .0)))
 
 module _ (s : List ℕ) (q : Place) (x : Sheetˢ) (z : Sized x) where
+  -- nothing is left behind the last line
+  at-bottom : (sheet : Sheet) (n : ℕ) → readLines document 1 s ≡ got sheet n [] → Stands s q n [] → Fair s q → q ≡ bottom s
+  unfolding bottom
+  at-bottom sheet n e m f =
+      let line = m .line ∙ sym (ap lineEnded e) in
+      let at : q .at ≡ length s = omega (arith, f .within, length-drop (q .at) s, ap length (m .left)) in
+      λ i. record { number = eqb-true (q .number) 0 (m .sound) i; field = f .field i; line = line i; at = at i }
+
   -- the rules of the whole sheet, after the lines
-  lines-judged : (r : Read Sheet) → Meets s r q (Held x) → Judged (judgedWhole document r) (record { place = verdictAs (length s) q x; sheet = x })
-  lines-judged (stopped y n) m = rw (ap good m ∙ refused-bad y n) m
-  lines-judged (got sheet n []) m =
+  lines-judged : (r : Read Sheet) → readLines document 1 s ≡ r → (good q ≡ true → Fair s q) → Meets s r q (Held x)
+      → Judged s (judgedWhole document r) (record { place = verdictAs (length s) q x; sheet = x })
+  lines-judged (stopped y n) o f m = rw (ap good m ∙ refused-bad y n) m
+  lines-judged (got sheet n []) o f m =
       let e : length s ≤ q .at = omega (arith, length-drop (q .at) s, ap length (m .0 .left)) in
-      rw (m .0 .sound, le-ltb (q .at) (length s) e) (whole-judged (m .1) z q (m .0 .sound))
-  lines-judged (got sheet n (b ∷ bs)) m =
+      rw (m .0 .sound, le-ltb (q .at) (length s) e) (whole-judged (m .1) z s q (at-bottom sheet n o (m .0) (f (m .0 .sound))))
+  lines-judged (got sheet n (b ∷ bs)) o f m =
       let e : q .at < length s = omega (arith, length-drop (q .at) s, ap length (m .0 .left)) in
       rw (m .0 .sound, lt-ltb (q .at) (length s) e) (ap (refusedAt Surplus) (m .0 .line))
 
@@ -121,46 +130,51 @@ module _ (s t : List ℕ) (all-of-it : length s ≤ 16384 → t ≡ s) (q : Plac
   abbrev found : Lines
   found = record { place = verdictAs (length s) q x; sheet = x }
 
-  too-long : ltb 16384 (length s) ≡ true → Judged (readOf document s) found
+  too-long : ltb 16384 (length s) ≡ true → Judged s (readOf document s) found
   unfolding readOf
   too-long e =
       let opened : openingAs (length s) ≡ refusedAt TooLong 0 = rw e in
       let ended : q ≡ refusedAt TooLong 0 = after .passes (ap good opened) ∙ opened in
       rw (e, ended) refl
 
-  of-good-length : ltb 16384 (length s) ≡ false → Judged (readOf document s) found
+  of-good-length : ltb 16384 (length s) ≡ false → Judged s (readOf document s) found
   unfolding readOf
   of-good-length e =
       let opened : openingAs (length s) ≡ top = rw e in
       let same = all-of-it (ltb-false 16384 (length s) e) in
       let read = subst (λ (p : Place). After t p (readLines document) q (Held x)) opened after .reads refl in
       let m : Meets s (readLines document 1 s) q (Held x) = subst (λ (u : List ℕ). Meets u (readLines document 1 u) q (Held x)) same read in
-      rw e (lines-judged s q x z (readLines document 1 s) m)
+      rw e (lines-judged s q x z (readLines document 1 s) refl (subst (λ (u : List ℕ). good q ≡ true → Fair u q) same (after .fair)) m)
 
-  pub judgement : Judged (readOf document s) found
+  pub judgement : Judged s (readOf document s) found
   judgement = here (ltb 16384 (length s)) refl
     where
-      here : (b : Bool) → ltb 16384 (length s) ≡ b → Judged (readOf document s) found
+      here : (b : Bool) → ltb 16384 (length s) ≡ b → Judged s (readOf document s) found
       here true e = too-long e
       here false e = of-good-length e
 
+-- a place behind the last line is not refused
+behind-good : (s : List ℕ) (p : Place) → p ≡ bottom s → good p ≡ true
+unfolding bottom
+behind-good s p e = ap good e
+
 -- THE ANSWER from it
-pub answer-refused : (s : List ℕ) (r : Lines) → Judged (readOf document s) r → good (r .place) ≡ false
+pub answer-refused : (s : List ℕ) (r : Lines) → Judged s (readOf document s) r → good (r .place) ≡ false
     → Answers (readOf document s) (record { number = r .place .number; field = r .place .field; line = r .place .line; sheet = blankSheet })
 answer-refused s r h e = here (readOf document s) h
   where
     rejected : Place → Outcome
     rejected p = record { number = p .number; field = p .field; line = p .line; sheet = blankSheet }
 
-    here : (a : Answer) → Judged a r → Answers a (rejected (r .place))
+    here : (a : Answer) → Judged s a r → Answers a (rejected (r .place))
     here (Refused x n) k = ap rejected k
-    here (Good sheet) k = not-both (good (r .place)) (k .0) e
+    here (Good sheet) k = not-both (good (r .place)) (behind-good s (r .place) (k .0)) e
 
-pub answer-good : (s : List ℕ) (r : Lines) → Judged (readOf document s) r → good (r .place) ≡ true
+pub answer-good : (s : List ℕ) (r : Lines) → Judged s (readOf document s) r → good (r .place) ≡ true
     → Answers (readOf document s) (record { number = 0; field = 0; line = 0; sheet = r .sheet })
 answer-good s r h e = here (readOf document s) h
   where
-    here : (a : Answer) → Judged a r → Answers a (record { number = 0; field = 0; line = 0; sheet = r .sheet })
+    here : (a : Answer) → Judged s a r → Answers a (record { number = 0; field = 0; line = 0; sheet = r .sheet })
     here (Refused x n) k = not-both (good (r .place)) e (ap good k ∙ refused-bad x n)
     here (Good sheet) k = (refl, refl, refl, k .1, k .2)
 
@@ -178,10 +192,10 @@ firm s r h e = here (readOf document s) refl h
     here (Good sheet) g k = record { sheet = sheet; good = g; shows = k .3 }
 
 -- the same by the judgement
-pub firm-judged : (s : List ℕ) (r : Lines) → Judged (readOf document s) r → good (r .place) ≡ true → Firm s (r .sheet)
+pub firm-judged : (s : List ℕ) (r : Lines) → Judged s (readOf document s) r → good (r .place) ≡ true → Firm s (r .sheet)
 firm-judged s r h e = here (readOf document s) refl h
   where
-    here : (a : Answer) → readOf document s ≡ a → Judged a r → Firm s (r .sheet)
+    here : (a : Answer) → readOf document s ≡ a → Judged s a r → Firm s (r .sheet)
     here (Refused x n) g k = not-both (good (r .place)) e (ap good k ∙ refused-bad x n)
     here (Good sheet) g k = record { sheet = sheet; good = g; shows = k .1 }
 
@@ -202,12 +216,12 @@ denied s r h e = here (readOf document s) refl h
     here (Good sheet) g k = absurd (e (k .0))
 
 -- the same by the judgement
-pub denied-judged : (s : List ℕ) (r : Lines) → Judged (readOf document s) r → good (r .place) ≡ false → Denied s (r .place .number) (r .place .line)
+pub denied-judged : (s : List ℕ) (r : Lines) → Judged s (readOf document s) r → good (r .place) ≡ false → Denied s (r .place .number) (r .place .line)
 denied-judged s r h e = here (readOf document s) refl h
   where
-    here : (a : Answer) → readOf document s ≡ a → Judged a r → Denied s (r .place .number) (r .place .line)
+    here : (a : Answer) → readOf document s ≡ a → Judged s a r → Denied s (r .place .number) (r .place .line)
     here (Refused x n) g k = record { why = x; is = g ∙ ap (Refused x) (sym (ap (λ (p : Place). p .line) k)); numbers = ap (λ (p : Place). p .number) k }
-    here (Good sheet) g k = not-both (good (r .place)) (k .0) e
+    here (Good sheet) g k = not-both (good (r .place)) (behind-good s (r .place) (k .0)) e
 
 -- both numbers are small
 pub denied-small : {s : List ℕ} {n line : ℕ} → Denied s n line → (n ≤ 11) × (line ≤ 16385)

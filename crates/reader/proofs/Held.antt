@@ -40,11 +40,16 @@ use Rattle.fuel.specs.Fuel.{fuellingSays}
 use Rattle.blocks.specs.Stages.{stagingSays, StagesRead}
 use Rattle.blocks.specs.Loads.{loadingSays}
 use Rattle.walls.specs.Surfaces.{surfacesSay, Below, SurfacesRead}
-use Rattle.reader.specs.All.{headOf, Held}
+use Rattle.reader.specs.All.{headOf, Blanked, Held}
+use Rattle.due.specs.Block.{Filled}
 use Rattle.due.proofs.Said.{none-read, line-then, group-then, _then_, lacks-kept}
 
 gas-is : (l : List Share) (r : Row) → shares l ≡ r .numbers → gasOf r ≡ gas l
 gas-is l r e = ap (λ (zs : List ℤ). gasOf (plain zs)) (sym e)
+
+blanked : {A B : Type 0} (view : A → B) (of : Row → B) (blank : A) (most : ℕ) {k : ℕ} {lines : List A} {rows : List Row}
+    → Filled view of blank most k lines rows → Blanked blank most k lines
+blanked view of blank most f = record { long = f .size; fits = filled-most view of blank most f; rest = f .rest }
 
 module _ (e : EditionLine) (h : Heading) (f : Fuelling) (d : Drying) (a : Staging) (b : Loading) (c : Surfaces) where
   abbrev sheetFrom : Sheetˢ
@@ -80,9 +85,9 @@ module _ (e : EditionLine) (h : Heading) (f : Fuelling) (d : Drying) (a : Stagin
       }
 
   -- the struct shows what all lines say
-  held : (Z : Row → Type 0) (edition : Row) → pos (e .edition .0) ≡ at edition 0 → (sheet : Sheet)
+  held : length (f .gas) ≡ 13 → (Z : Row → Type 0) (edition : Row) → pos (e .edition .0) ≡ at edition 0 → (sheet : Sheet)
       → Said (aboveSays ++ belowSays Z) (filled sheetLine (edition ∷ [])) sheet → Held sheetFrom sheet
-  held Z edition is sheet firing =
+  held long Z edition is sheet firing =
       let product = firing .2 in
       let ambient = product .2 in
       let fuel = ambient .2 in
@@ -122,14 +127,11 @@ module _ (e : EditionLine) (h : Heading) (f : Fuelling) (d : Drying) (a : Stagin
           readings = walls .1 .lie ∙ ap (λ (x : List Section). laid x (replicate 144 unread) W) (shown .shown);
         };
         trimmed = record {
-          stages = stages .1 .rest;
-          setters = setters .1 .rest;
-          parts = parts .1 .rest;
-          sections = shown .rest;
-          stagesFit = filled-most stage stageOf blankStage 12 (stages .1);
-          settersFit = filled-most setter setterOf blankSetter 32 (setters .1);
-          partsFit = filled-most part partOf blankPart 32 (parts .1);
-          sectionsFit = filled-most section sectionOf blankSection 12 shown;
+          gas = long;
+          stages = blanked stage stageOf blankStage 12 (stages .1);
+          setters = blanked setter setterOf blankSetter 32 (setters .1);
+          parts = blanked part partOf blankPart 32 (parts .1);
+          sections = blanked section sectionOf blankSection 12 shown;
         };
         stagesAre = length-map (stages .0) stageOf ∙ stages .1 .count;
         sectionsAre = length-map (sections .0) sectionOf ∙ shown .count;
@@ -139,7 +141,7 @@ module _ (e : EditionLine) (h : Heading) (f : Fuelling) (d : Drying) (a : Stagin
 
 -- ---- group after group
 module _ (s : List ℕ) (start : Place) (e : EditionLine) (h : Heading) (f : Fuelling) (d : Drying) (a : Staging) (b : Loading) (c : Surfaces)
-    (z : ClosingLine) (Z : Row → Type 0)
+    (z : ClosingLine) (Z : Row → Type 0) (long : length (f .gas) ≡ 13)
     (he : After s start (readLine sheetLine (λ row. none)) (e .place) (λ row. pos (e .edition .0) ≡ at row 0))
     (hh : GroupRead s (e .place) (paragraphsOf heading) (h .place) (headingSays h))
     (hf : GroupRead s (h .place) (paragraphsOf fuelling) (f .place) (fuellingSays f))
@@ -169,7 +171,7 @@ module _ (s : List ℕ) (start : Place) (e : EditionLine) (h : Heading) (f : Fue
       let top = filled sheetLine (r ∷ []) in
       subst (λ (x : Sheet). After s (e .place) (readParagraphs (linesOf (editionIn x)) x) (z .place) Q)
       (sym (k .1 ∙ ap (λ (y : List Row). filled sheetLine y) (k .2 .1)))
-      (after-weaker s (e .place) (z .place) _ (Said (aboveSays e h f d a b c ++ belowSays e h f d a b c Z) top) Q (held e h f d a b c Z r (k .2 .2))
+      (after-weaker s (e .place) (z .place) _ (Said (aboveSays e h f d a b c ++ belowSays e h f d a b c Z) top) Q (held e h f d a b c long Z r (k .2 .2))
       (group-then (paragraphsOf (heading ++ (fuelling ++ (drying ++ (staging ++ loading))))) below-read (aboveSays e h f d a b c)
       (belowSays e h f d a b c Z) top
       (above .after top)

@@ -35,16 +35,19 @@ headOf e h f d = record {
   clay = d .clay;
 }
 
--- the counts are within their arrays, beyond which nothing could be shown, and beyond their counts the blocks are blank
+-- an array of its length, a count within it, beyond which nothing could be shown, and blanks beyond the count
+pub record Blanked {A : Type 0} (blank : A) (most count : ℕ) (lines : List A) : Type 0 where
+  pub long : length lines ≡ most
+  pub fits : count ≤ most
+  pub rest : drop count lines ≡ replicate (most - count) blank
+
+-- nothing stands in the struct but what it shows
 pub record Trimmed (x : Sheetˢ) : Type 0 where
-  pub stages : drop (x .stages .count .0) (x .stages .lines) ≡ replicate (12 - x .stages .count .0) blankStage
-  pub setters : drop (x .setters .count .0) (x .setters .lines) ≡ replicate (32 - x .setters .count .0) blankSetter
-  pub parts : drop (x .parts .count .0) (x .parts .lines) ≡ replicate (32 - x .parts .count .0) blankPart
-  pub sections : drop (x .sections .count .0) (x .sections .lines) ≡ replicate (12 - x .sections .count .0) blankSection
-  pub stagesFit : x .stages .count .0 ≤ 12
-  pub settersFit : x .setters .count .0 ≤ 32
-  pub partsFit : x .parts .count .0 ≤ 32
-  pub sectionsFit : x .sections .count .0 ≤ 12
+  pub gas : length (x .head .gas) ≡ 13
+  pub stages : Blanked blankStage 12 (x .stages .count .0) (x .stages .lines)
+  pub setters : Blanked blankSetter 32 (x .setters .count .0) (x .setters .lines)
+  pub parts : Blanked blankPart 32 (x .parts .count .0) (x .parts .lines)
+  pub sections : Blanked blankSection 12 (x .sections .count .0) (x .sections .lines)
 
 -- the struct holds what the rows of a sheet say, and its rules of sections and walls were kept
 pub record Held (x : Sheetˢ) (sheet : Sheet) : Type 0 where

@@ -1,7 +1,9 @@
 -- Where the code begins to read, the rules of the whole sheet, and what it answers.
 use Prim.Native.Nat.{ℕ}
 use mathlib.Core.Path.{_≡_}
-use mathlib.Core.Bool.{true, cond}
+use mathlib.Core.Bool.{cond}
+use mathlib.Core.List.{List}
+use lib.ListN.{length}
 use lib.Dec.{ltb}
 use lib.IntN.{ℤ}
 use Rattle.sheet.specs.declared.Sheet.{Sheet as Sheetˢ}
@@ -12,7 +14,8 @@ use Rattle.sheet.specs.Shown.{Shows}
 use Rattle.sheet.specs.Block.{stagesOf, totalGas}
 use Rattle.document.specs.Schema.{within}
 use Rattle.document.specs.Quantities.{gasTotal}
-use Rattle.document.specs.Reader.{Answer, Refused, Good}
+use Rattle.document.specs.Reader.{Sheet, Read, stopped, got, readLines, Answer, Refused, Good}
+use Rattle.document.specs.Editions.{document}
 use Rattle.document.specs.Rows.{firingOf}
 use Rattle.walls.specs.Cells.{allRead}
 use Rattle.due.specs.declared.Place.{Place}
@@ -25,6 +28,14 @@ use Rattle.sheet.specs.Blank.{blankSheet}
 -- before the first line
 abbrev pub top : Place
 top = record { number = 0; field = 0; line = 1; at = 0 }
+
+-- behind the last line of a text that was read to its end
+abbrev pub lineEnded : Read Sheet → ℕ
+lineEnded (stopped x n) = n
+lineEnded (got sheet n rest) = n
+
+unfoldable pub bottom : List ℕ → Place
+bottom s = record { number = 0; field = 0; line = lineEnded (readLines document 1 s); at = length s }
 
 -- where the reading of n bytes begins
 abbrev pub openingAs : ℕ → Place
@@ -44,11 +55,11 @@ wholeAs p x =
 abbrev pub verdictAs : ℕ → Place → Sheetˢ → Place
 verdictAs n p x = cond (good p) (cond (ltb (p .at) n) (refusedAt Surplus (p .line)) (wholeAs p x)) p
 
--- THE CODE'S JUDGEMENT: document 01's refusal with its line, as a place, or the struct of the firing that the sheet gives. Beside a
--- refusal the struct stays open.
-abbrev pub Judged : Answer → Lines → Type 0
-Judged (Refused x n) r = r .place ≡ refusedAt x n
-Judged (Good sheet) r = (good (r .place) ≡ true) × Shows (r .sheet) (firingOf sheet) × Trimmed (r .sheet)
+-- THE CODE'S JUDGEMENT of a text: document 01's refusal with its line, as a place, or the place behind the last line and the struct of the
+-- firing that the sheet gives, and nothing else. Beside a refusal the struct stays open.
+abbrev pub Judged : List ℕ → Answer → Lines → Type 0
+Judged s (Refused x n) r = r .place ≡ refusedAt x n
+Judged s (Good sheet) r = (r .place ≡ bottom s) × Shows (r .sheet) (firingOf sheet) × Trimmed (r .sheet)
 
 abbrev pub rejectedAs : Refusal → ℕ → Outcome
 rejectedAs x n = record { number = number x; field = field x; line = n; sheet = blankSheet }

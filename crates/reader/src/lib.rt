@@ -12,11 +12,11 @@ ghost use Rattle.document.specs.Editions.{document};
 ghost use Rattle.document.specs.Reader.{readOf};
 ghost use Rattle.reader.specs.Whole.{Judged, Answers};
 
-// The firing that a sheet gives and a place that is not refused, or the first rule that the sheet breaks as the place; what the firing
+// The firing that a sheet gives and the place behind its last line, or the first rule that the sheet breaks as the place; what the firing
 // then is stays open. Of a text that is too long nothing is looked at.
 // One way through it, for the compiler: docs/DECISIONS.md, "`kiln` calls `judged` and not `read`".
 pub fn judged(s: &[u8]) -> Lines
-    ensures { λ r. ⌜ Judged (readOf document (now (s .entry))) r ⌝ }
+    ensures { λ r. ⌜ Judged (now (s .entry)) (readOf document (now (s .entry))) r ⌝ }
 {
     let n = s.len();
     let start = opening(n);

@@ -1,4 +1,8 @@
 -- The groups one after the other. Assumes nothing.
+use Prim.Native.Nat.{ℕ}
+use mathlib.Core.Path.{_≡_, sym, _∙_}
+use mathlib.Core.List.{List, map}
+use lib.ListN.{length, length-map}
 use borrow.Author.Needs.{needs}
 use Rattle.reader.proofs.Held.{lines-after}
 use Rattle.reader.proofs.all.all_lines.Statement.{statement}
@@ -18,6 +22,13 @@ closing-line-requires : tie.Need-closing-line-requires
 closing-line-requires c κs =
     record { short = start (c .before) .pre .short; fair = c .surface-lines .ensures .fair }
 
+-- an array has as many shares as its type says
+unmapped : {A B : Type 0} (f : A → B) (l : List A) (n : ℕ) → length (map f l) ≡ n → length l ≡ n
+unmapped f l n e = sym (length-map l f) ∙ e
+
+gas-long : (c : tie.After-fuelling-lines) → length (c .fuelling-lines .result .gas) ≡ 13
+gas-long c = search (needs, unmapped)
+
 returns : tie.Need-returns
 returns c =
     let fields = c .before .before .before in
@@ -36,6 +47,7 @@ returns c =
       after = lines-after (a .s .now) (a .start)
           (first .edition-line .result) (heading .heading-lines .result) (fuelling .fuelling-lines .result) (drying .drying-lines .result)
           (staging .staging-lines .result) (loading .loading-lines .result) (surfaces .surface-lines .result) (closing .closing-line .result) _
+          (gas-long fuelling)
           (first .edition-line .ensures) (heading .heading-lines .ensures) (fuelling .fuelling-lines .ensures) (drying .drying-lines .ensures)
           (staging .staging-lines .ensures) (loading .loading-lines .ensures) (surfaces .surface-lines .ensures) (closing .closing-line .ensures);
       sized = record {
