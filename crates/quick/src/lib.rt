@@ -2,10 +2,9 @@
 // name no fault; the crate `form` then reads the line with care.
 ghost use mathlib.Core.Path.{_≡_};
 ghost use Prim.Native.Nat.{_≤_, _<_};
-ghost use lib.ListN.{length};
-ghost use Rattle.form.specs.Fields.{accepted, fieldsAt};
 ghost use Rattle.quick.specs.Key.{standing, behindOf};
 ghost use Rattle.quick.specs.Number.{Number};
+ghost use Rattle.quick.specs.Row.{RowRead};
 use std::num::wrapping_sub_u8;
 
 // A number and the place after the byte that closes it; place 0 where there is none.
@@ -41,11 +40,10 @@ pub fn behind(s: &[u8], at: usize, key: &[u8]) -> usize
     0
 }
 
-// Reads n numbers with commas between them and an LF behind them into v, and answers the place after them, or 0.
+// Reads n numbers with commas between them and an LF behind them into the first n of v, and answers the place after them, or 0.
 pub fn row(s: &[u8], start: usize, n: usize, v: &mut [i64; 13]) -> usize
     requires { ⌜ n ≤ 13 ⌝ }
-    ensures { λ r. ⌜ ((r ≡ 0 → ⊥) → accepted r (now (v .exit)) ≡ fieldsAt (now (s .entry)) start n 0 (now (v .entry))) ⌝ }
-    ensures { λ _. ⌜ length (now (v .exit)) ≡ length (now (v .entry)) ⌝ }
+    ensures { λ r. ⌜ RowRead (now (s .entry)) start n (now (v .entry)) (now (v .exit)) r ⌝ }
 {
     let mut at = start;
     let mut i = 0;

@@ -33,14 +33,14 @@ returns c =
     let k = a .pre .1 .1 .0 (seen .before .before .before .if2 .taken) in
     rw (c .onward .ensures)
     (form-read (a .args .s .now) (a .args .p) (a .args .key .now) (a .args .n) (a .pre .1 .0) (is-good (a .args .p) (g .if1 .taken))
-    (accepted (r .result) _) (r .ensures .0 (seen .if3 .taken) ∙ rw (k .1, a .pre .1 .1 .1) (sym (keyed-line _ _ _ _ (k .0)))) refl)
+    (accepted (r .result) _) (r .ensures .read (seen .if3 .taken) ∙ rw (k .1, a .pre .1 .1 .1) (sym (keyed-line _ _ _ _ (k .0)))) refl)
 
 careful-requires : tie.Need-careful-requires
 careful-requires c κs =
     let g = c .before .before in
     let a = start g in
     let size : length (a .args .v .now) ≡ 13 = ap length (a .pre .1 .1 .1) in
-    let kept = ⊎-elim (λ w. ap length (w .4) ∙ w .2 .ensures .1 ∙ size) (λ w. ap length (w .1) ∙ size) (c .before .if2 .came) in
+    let kept = ⊎-elim (λ w. ap length (w .4) ∙ w .2 .ensures .long ∙ size) (λ w. ap length (w .1) ∙ size) (c .before .if2 .came) in
     (a .pre .0, (a .pre .1 .0, (is-good (a .args .p) (g .if1 .taken), kept)))
 
 returns-3 : tie.Need-returns-3

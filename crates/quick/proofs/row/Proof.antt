@@ -4,7 +4,8 @@ use mathlib.Core.Path.{_≡_, refl, sym, _∙_}
 use mathlib.Core.Logic.{⊎-elim}
 use Prim.Native.Nat.{_-_}
 use native.Mathlib.Omega.{arith}
-use lib.ListN.{length, length-set}
+use lib.ListN.{length, drop, length-set}
+use lib.Seq.{drop-set-lt}
 use mir.Syntax.{w64}
 use mir.Val.{toZ, ofZ}
 use mir.ValLaws.{toZ-ofZ}
@@ -16,7 +17,7 @@ use Rattle.quick.proofs.row.Statement.{statement}
 use Rattle.quick.proofs.row.Tie as tie
 
 abbrev Inv-loop : tie.InvT-loop
-Inv-loop s start n v₀ at₀ i₀ v at i = (fieldsAt s at n i v ≡ fieldsAt s start n 0 v₀) × (length v ≡ length v₀)
+Inv-loop s start n v₀ at₀ i₀ v at i = (fieldsAt s at n i v ≡ fieldsAt s start n 0 v₀) × (length v ≡ length v₀) × (drop n v ≡ drop n v₀)
 
 abbrev μ-loop : tie.MeasureT-loop
 μ-loop s start n v₀ at₀ i₀ v at i = n - i
@@ -32,17 +33,22 @@ number-requires : tie.Need-number-requires Inv-loop μ-loop
 number-requires c κs = ⊎-elim (λ w. rw (w .1) (lit< tt)) (λ w. rw (w .1) (lit< tt)) (c .if1 .came)
 
 returns : tie.Need-returns Inv-loop μ-loop
-returns c = let number = c .before .before in ((λ q. absurd (q refl)), number .before .before .before .loop .inv .1)
+returns c =
+    let number = c .before .before in
+    let l = number .before .before .before .loop in
+    record { read = λ q. absurd (q refl); long = l .inv .1; beyond = l .inv .2 }
 
 returns-2 : tie.Need-returns-2 Inv-loop μ-loop
 returns-2 c =
     let number = c .before .before .before .before in
     let j = number .before in
     let l = j .before .before .loop in
-    let h : j .if1 .c ≡ 10 = ⊎-elim (λ w. w .1) (λ w. absurd (w .0 .left (c .if3 .taken))) (j .if1 .came) in (
-      λ q. rw (kept (c .before)) (sym (row-last _ _ _ _ _ _ _ (rw h at (number .number .ensures q)) (c .if3 .taken)) ∙ l .inv .0),
-      simp length-set (l .inv .1),
-    )
+    let h : j .if1 .c ≡ 10 = ⊎-elim (λ w. w .1) (λ w. absurd (w .0 .left (c .if3 .taken))) (j .if1 .came) in
+    record {
+      read = λ q. rw (kept (c .before)) (sym (row-last _ _ _ _ _ _ _ (rw h at (number .number .ensures q)) (c .if3 .taken)) ∙ l .inv .0);
+      long = simp length-set (l .inv .1);
+      beyond = drop-set-lt _ (l .v) (l .i) _ (j .before .loop-test .taken) ∙ l .inv .2;
+    }
 
 loop-again : tie.Need-loop-again Inv-loop μ-loop
 loop-again c =
@@ -52,10 +58,11 @@ loop-again c =
     let h : j .if1 .c ≡ 44 = ⊎-elim (λ w. absurd (c .if3 .left (w .0 .taken))) (λ w. w .1) (j .if1 .came) in (
       rw (kept (c .before)) (sym (row-more _ _ _ _ _ _ _ (rw h at (number .number .ensures (c .before .before .if2 .left)))) ∙ l .inv .0),
       simp length-set (l .inv .1),
+      drop-set-lt _ (l .v) (l .i) _ (j .before .loop-test .taken) ∙ l .inv .2,
     )
 
 returns-3 : tie.Need-returns-3 Inv-loop μ-loop
-returns-3 c = ((λ q. absurd (q refl)), c .before .loop .inv .1)
+returns-3 c = let l = c .before .loop in record { read = λ q. absurd (q refl); long = l .inv .1; beyond = l .inv .2 }
 
 pub row-spec : {M : Type 1} → statement M
 row-spec =
