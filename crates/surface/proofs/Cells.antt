@@ -1,16 +1,16 @@
 -- The sum over all cells of the readings is the sum over the walls of the sheet: a wall is laid into a cell where nothing was read before,
 -- so it adds its own heat; and the cell of each section in each stage was read. Assumes nothing.
 use Prim.Native.Nat.{ℕ, zero, suc, _+_, _*_, _-_, _/_, _%_, _≤_, _<_}
-use mathlib.Core.Path.{_≡_, refl, sym, ap, ap₂, _∙_, subst}
+use mathlib.Core.Path.{_≡_, refl, sym, ap, _∙_, subst}
 use mathlib.Core.Bool.{Bool, true, false, cond, and-eq-true-iff}
-use mathlib.Core.List.{List, [], _∷_, map}
+use mathlib.Core.List.{List, [], _∷_}
 use mathlib.Core.Logic.{_⊎_, inl, inr, _≢_}
 use native.Mathlib.Nat.{le-of-suc-le-suc, not-suc-le-zero}
 use native.Mathlib.Decide.{decLe}
 use native.Mathlib.Omega.{arith}
 use lib.Dec.{T}
 use lib.IntN.{ℤ, pos, negsuc, natAbs, _+ℤ_}
-use lib.ListN.{length, getD, take, set, replicate, length-set}
+use lib.ListN.{length, getD, set, replicate, length-set}
 use lib.Seq.{getD-set-same, getD-set-other}
 use lib.Signed.{leZ, leZ-yes, _≤ℤ_, ≤ℤ-refl}
 use Rattle.arith.proofs.Ring.{v, #, _⊕_, ring}
@@ -23,8 +23,9 @@ use Rattle.document.specs.Rules.{Every, Some, NoTwo, SameNumber, SameReading, I
 use Rattle.document.specs.Lawful.{WallIn, Lawful}
 use Rattle.formulas.specs.Rounding.{paper}
 use Rattle.formulas.specs.Formulas.{noSection, noStage, numbered, sectionOf, stageOf, convection, radiation, flux, wallHeat, x9}
-use Rattle.surface.specs.Cells.{ReadingIn, wallOf}
+use Rattle.surface.specs.Cells.{ReadingIn}
 use Rattle.document.proofs.Lists.{some-imp, every-at}
+use Rattle.surface.proofs.Terms.{wallOf}
 use Rattle.surface.proofs.Grid.{sumTo, sum-none, sum-one}
 
 -- ---- a section by its number

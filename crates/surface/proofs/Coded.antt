@@ -1,5 +1,5 @@
 -- What the code sums, section by section and stage by stage, is x9. Assumes nothing.
-use Prim.Native.Nat.{ℕ, zero, suc, _+_, _*_, _/_, _%_, _≤_, _<_, min}
+use Prim.Native.Nat.{ℕ, zero, suc, _+_, _*_, _/_, _%_, _<_, min}
 use mathlib.Core.Path.{_≡_, refl, sym, ap, _∙_, subst}
 use mathlib.Core.Bool.{true}
 use mathlib.Core.List.{List, [], _∷_, map}
@@ -19,9 +19,10 @@ use Rattle.document.specs.Lawful.{StageIn, SectionIn}
 use Rattle.document.proofs.Lists.{every-at}
 use Rattle.formulas.specs.Rounding.{paper}
 use Rattle.formulas.specs.Formulas.{noSection, noStage, wallHeat, x9}
-use Rattle.surface.specs.Cells.{wallOf, LostIn, Seen}
+use Rattle.surface.specs.Cells.{LostIn, Seen}
+use Rattle.surface.proofs.Terms.{wallOf}
 use Rattle.surface.proofs.Grid.{sumTo, grid, in-grid}
-use Rattle.surface.proofs.Cells.{Lies, heatAt, cellsOf, cell-lies, cell-read, cell-none, cells-total}
+use Rattle.surface.proofs.Cells.{heatAt, cell-lies, cell-read, cell-none, cells-total}
 
 abbrev blankSection : Sectionˢ
 blankSection = record { number = record { 0 = 0 }; place = record { 0 = 0 }; area = record { 0 = pos 0 } }
@@ -73,8 +74,9 @@ module _ {readings : List Reading} {x : Sections} {y : Stages} {f : Firing} (see
     pub cell-in : LostIn (getD readings (i * 12 + j) unread) (section (getD (x .lines) i blankSection)) (stage (getD (y .lines) j blankStage))
     cell-in =
         let lies = rw (sym (seen .laid)) at (cell-lies f (seen .rules) (i * 12 + j) (cell-read f (seen .rules) i j here there)) in
+        let section = every-at SectionIn (f .sections) i noSection (seen .rules .sections) here in
         record {
-          wall = record { reading = lies .reading; section = subst SectionIn section-at (every-at SectionIn (f .sections) i noSection (seen .rules .sections) here) };
+          wall = record { reading = lies .reading; section = subst SectionIn section-at section };
           stage = subst StageIn stage-at (every-at StageIn (f .stages) j noStage (seen .rules .stages) there);
         }
 

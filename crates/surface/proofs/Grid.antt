@@ -122,7 +122,8 @@ module _ (k B : ℕ) (g : ℕ → ℕ → ℤ) (columns : ℕ) where
   pub row-ended : (i j : ℕ) {n : ℤ} → j ≤ 12 → j ≡ columns → Reached i j n → Running k B ((i + 1) * 12) n (grid g (i + 1) columns)
   row-ended i j {n} h e p =
       let most : i * 12 + j ≤ (i + 1) * 12 = omega arith in
-      let wider : Running k B ((i + 1) * 12) n (grid g i columns +ℤ sumTo (g i) j) = record { is = p .is; size = le-trans (p .size) (mul-le-mul-right B most) } in
+      let wider : Running k B ((i + 1) * 12) n (grid g i columns +ℤ sumTo (g i) j) =
+      record { is = p .is; size = le-trans (p .size) (mul-le-mul-right B most) } in
       let x : grid g i columns +ℤ sumTo (g i) j ≡ grid g (i + 1) columns =
       ap (λ (c : ℕ). grid g i columns +ℤ sumTo (g i) c) e ∙ sym (sum-next (λ a. sumTo (g a) columns) i)
       in

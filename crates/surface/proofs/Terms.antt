@@ -1,16 +1,23 @@
--- How large the first term of formula 25 can be, by its factor and the rise. Assumes nothing.
+-- A reading as a wall, and how large the first term of formula 25 can be, by its factor and the rise. Assumes nothing.
 use Prim.Native.Nat.{ℕ, _+_, _*_, _≤_, _<_}
 use mathlib.Core.List.{[], _∷_}
 use native.Mathlib.Nat.{le-refl, lt-of-le-of-lt, mul-le-mul}
 use native.Mathlib.Decide.{decLe}
 use native.Mathlib.Omega.{arith}
 use lib.Dec.{leb, leb→le, lit<}
+use lib.IntN.{pos}
 use Rattle.arith.specs.Root.{root}
 use Rattle.arith.proofs.RootLaws.{root-is}
+use Rattle.sheet.specs.declared.Reading.{Reading}
+use Rattle.sheet.specs.Firing.{Wall}
 use Rattle.formulas.specs.Rounding.{square}
 use Rattle.formulas.specs.Formulas.{placed}
 use Rattle.formulas.specs.Sizes.{placedMost, warmerMost, convectionMost}
 use Rattle.formulas.proofs.Sizes.{entry}
+
+-- where and when is known by the cell
+abbrev pub wallOf : Reading → Wall
+wallOf x = record { section = pos 0; stage = pos 0; surface = x .surface .0; air = x .air .0 }
 
 pub placed-most : (p : ℕ) → placed p ≤ placedMost
 placed-most p = leb→le _ _ (entry (λ a. leb a placedMost) 0 (0 ∷ 326 ∷ 256 ∷ 210 ∷ []) tt tt p)

@@ -10,7 +10,7 @@ use mir.Val.{SFits}
 use Rattle.sheet.specs.declared.Reading.{Reading}
 use Rattle.sheet.specs.declared.Sections.{Sections}
 use Rattle.sheet.specs.declared.Stages.{Stages}
-use Rattle.sheet.specs.Firing.{Stage, Section, Wall, Firing}
+use Rattle.sheet.specs.Firing.{Stage, Section, Firing}
 use Rattle.sheet.specs.Shown.{section, laid, unread}
 use Rattle.sheet.specs.Block.{stagesOf}
 use Rattle.document.specs.Quantities.{surface, nearAir, minutes}
@@ -57,10 +57,6 @@ pub record LostIn (x : Reading) (s : Section) (t : Stage) : Type 0 where
   pub stage : StageIn t
 
 -- ---- cells
--- a reading as a wall; where and when is known by the cell
-abbrev pub wallOf : Reading → Wall
-wallOf x = record { section = pos 0; stage = pos 0; surface = x .surface .0; air = x .air .0 }
-
 -- the firing that sections, stages and readings show; it keeps every rule, so each of its sections was read in each of its stages
 pub record Seen (readings : List Reading) (x : Sections) (y : Stages) (f : Firing) : Type 0 where
   pub sections : f .sections ≡ map section (take (x .count .0) (x .lines))

@@ -5,9 +5,9 @@ use borrow.Author.Needs.{needs}
 use Rattle.arith.proofs.Order.{arithℤ, sub-nonneg}
 use Rattle.arith.proofs.Machine.{raw, _⟨+⟩_, _⟨-⟩_, at-most}
 use Rattle.formulas.specs.Formulas.{flux, convection}
-use Rattle.surface.specs.Cells.{wallOf}
 use Rattle.formulas.proofs.Units.{units, same, plus}
 use Rattle.formulas.proofs.Sizes.{within, limits, most, fit}
+use Rattle.surface.proofs.Terms.{wallOf}
 use Rattle.surface.proofs.flux_at.Statement.{statement}
 use Rattle.surface.proofs.flux_at.Tie as tie
 

@@ -7,9 +7,9 @@ use lib.IntN.{pos}
 use Rattle.arith.proofs.Ring.{v, #, _⊗_, ring}
 use Rattle.arith.proofs.Machine.{raw, num, _⟨*⟩_}
 use Rattle.formulas.specs.Formulas.{joule, wallHeat}
-use Rattle.surface.specs.Cells.{wallOf}
 use Rattle.formulas.proofs.Units.{same, times, finer, coarser}
 use Rattle.formulas.proofs.Sizes.{within, limits, fit, rounded}
+use Rattle.surface.proofs.Terms.{wallOf}
 use Rattle.surface.proofs.wall_heat.Statement.{statement}
 use Rattle.surface.proofs.wall_heat.Tie as tie
 

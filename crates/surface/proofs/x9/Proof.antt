@@ -11,7 +11,7 @@ use Rattle.sheet.proofs.Sums.{unmapped}
 use Rattle.formulas.specs.Formulas.{joule}
 use Rattle.formulas.specs.Sizes.{cellsMost, wallHeatMost}
 use Rattle.formulas.proofs.Sums.{Running, more-fits, at-most}
-use Rattle.surface.specs.Cells.{wallOf}
+use Rattle.surface.proofs.Terms.{wallOf}
 use Rattle.surface.proofs.Grid.{grid, Reached, begun, row-begun, cell-more, row-ended}
 use Rattle.surface.proofs.Coded.{coded, cell-in, coded-total}
 use Rattle.surface.proofs.x9.Statement.{statement}
@@ -87,8 +87,9 @@ returns c =
     let o = c .before in
     let s = start (o .before) in
     let rows : min (s .args .sections .count .0) 12 ≡ o .loop .i = omega arith in
+    let columns : min (s .args .stages .count .0) 12 ≡ o .before .held2 .result = omega arith in
     let all = at-most cellsMost (omega arith) (o .loop .inv .3) in
-    λ f seen. rw (← coded-total seen (long s) (wide s), rows, ← o .before .held2 .ensures) all
+    λ f seen. rw (← coded-total seen (long s) (wide s), rows, columns) all
 
 pub x9-spec : {M : Type 1} → statement M
 x9-spec =
