@@ -58,7 +58,7 @@ _then_ {edition = edition} {a = a} {b = b} g h = record {
 }
 
 infixr 5 _&_
-abbrev _&_ : {A B : Type 0} → A → B → A × B
+abbrev pub _&_ : {A B : Type 0} → A → B → A × B
 _&_ a b = (a, b)
 
 -- a row is so read in an edition

@@ -10,7 +10,7 @@ use lib.Signed.{leZ, ltZ, _≤ℤ_, _<ℤ_, ltZ-no}
 use Rattle.document.specs.Schema.{Field, Line, Row, at, within, inRanges, fits}
 use Rattle.document.specs.Rules.{Every}
 use Rattle.document.specs.Rows.{first}
-use Rattle.document.specs.Lawful.{In}
+use Rattle.document.specs.Lawful.{In, InRanges}
 use Rattle.document.proofs.Cases.{clash, both}
 use Rattle.document.proofs.Judged.{is-fit}
 use Rattle.document.proofs.Rules.{tests-le, tests-lt}
@@ -34,6 +34,24 @@ ranged [] zs e i = tt
 ranged (f ∷ fs) [] e i = clash cc
 ranged (f ∷ fs) (z ∷ zs) e zero = is-within f z (both (within f z) (inRanges fs zs) e .0)
 ranged (f ∷ fs) (z ∷ zs) e (suc i) = ranged fs zs (both (within f z) (inRanges fs zs) e .1) i
+
+pub ranges-in : (fs : List Field) (zs : List ℤ) → inRanges fs zs ≡ true → InRanges fs zs
+unfolding inRanges
+ranges-in [] [] e = tt
+ranges-in [] (z ∷ zs) e = clash cc
+ranges-in (f ∷ fs) [] e = clash cc
+ranges-in (f ∷ fs) (z ∷ zs) e = let b = both (within f z) (inRanges fs zs) e in (is-within f z (b .0), ranges-in fs zs (b .1))
+
+-- and back
+pub in-ranges : (fs : List Field) (zs : List ℤ) → InRanges fs zs → inRanges fs zs ≡ true
+unfolding inRanges
+in-ranges [] [] h = refl
+in-ranges [] (z ∷ zs) h = absurd h
+in-ranges (f ∷ fs) [] h = absurd h
+in-ranges (f ∷ fs) (z ∷ zs) h =
+    let low = tests-le (f .least) z .back (h .0 .low) in
+    let high = tests-le z (f .greatest) .back (h .0 .high) in
+    rw (low, high) (in-ranges fs zs (h .1))
 
 pub field-in : (l : Line) (row : Row) → fits l row ≡ true → (i : ℕ) → FieldIn i (l .fields) (at row i)
 field-in l row h = ranged (l .fields) (row .numbers) (is-fit l row h .inside)

@@ -34,7 +34,7 @@ all-lines below whole (f ∷ fs) =
 ruled-lines : (sheet : Sheet) → Same (LinesKeep document sheet) (ParagraphsKeep (allLines (editionIn sheet)) [] sheet)
 ruled-lines sheet = all-lines (λ z. paragraphsOf (entriesOf z)) whole-rule sheet
 
-formed-lines : (sheet : Sheet) → Same (LinesKeep formOnly sheet) (ParagraphsKeep (map unruled (allLines (editionIn sheet))) [] sheet)
+pub formed-lines : (sheet : Sheet) → Same (LinesKeep formOnly sheet) (ParagraphsKeep (map unruled (allLines (editionIn sheet))) [] sheet)
 formed-lines sheet = all-lines (λ z. map unruled (paragraphsOf (entriesOf z))) (λ s. none) sheet
 
 pub form-kept : (sheet : Sheet) → Keeps document sheet → Keeps formOnly sheet

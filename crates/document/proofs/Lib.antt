@@ -14,6 +14,7 @@ pub mod Ruled
 pub mod Entries
 pub mod Kept
 pub mod Lawful
+pub mod Plain
 pub mod Numbering
 pub mod Document01
 pub mod Editions

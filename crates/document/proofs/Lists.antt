@@ -34,10 +34,6 @@ module _ {A : Type 0} where
   every-split P [] ys k = (tt, k)
   every-split P (x ∷ xs) ys k = let m = every-split P xs ys (k .1) in ((k .0, m .0), m .1)
 
-  pub no-two-imp : {R S : A → A → Type 0} → ((x y : A) → S x y → R x y) → (xs : List A) → NoTwo R xs → NoTwo S xs
-  no-two-imp h [] k = tt
-  no-two-imp h (x ∷ xs) k = (every-imp (λ y n r. n (h y x r)) xs (k .0), no-two-imp h xs (k .1))
-
   -- one of a list with one more is one of the list or this one
   module _ (P : A → Type 0) (x : A) where
     pub some-before : (xs : List A) → Some P xs → Some P (xs ++ (x ∷ []))

@@ -10,9 +10,7 @@ use Rattle.sheet.specs.Firing.{Section, Wall}
 use Rattle.document.specs.Reader.{Sheet, Good, readOf}
 use Rattle.document.specs.Editions.{document}
 use Rattle.document.specs.Rules.{Some, Every, NoTwo, SameNumber}
-use Rattle.document.specs.Rows.{stagesIn, sectionsIn, wallsIn, firingOf}
-use Rattle.document.proofs.Whole.{kept}
-use Rattle.document.proofs.Kept.{rules-kept}
+use Rattle.document.specs.Rows.{firingOf}
 use Rattle.document.proofs.Editions.{firing-lawful}
 
 -- a reading at a section in a stage
@@ -71,5 +69,6 @@ as-many n (r ∷ rs) ws d h =
 pub readings-most : (text : List ℕ) (sheet : Sheet) → readOf document text ≡ Good sheet
     → length (firingOf sheet .sections) * length (firingOf sheet .stages) ≤ 48
 readings-most text sheet e =
-    let r = rules-kept sheet (kept document text sheet e .keeps) in
-    omega (arith, as-many (length (stagesIn sheet)) (sectionsIn sheet) (wallsIn sheet) (r .numbered) (r .read), firing-lawful text sheet e .wallsMost)
+    let f = firingOf sheet in
+    let r = firing-lawful text sheet e in
+    omega (arith, as-many (length (f .stages)) (f .sections) (f .walls) (r .numbered) (r .read), r .wallsMost)

@@ -1,5 +1,5 @@
 -- ALL RULES OF A FIRING, by name and in plain words: each quantity between its least and its greatest, and document 01's rules 4 to 10.
--- The firing of every sheet that is accepted keeps these (`sheet-lawful`).
+-- A sheet passes the reader's tests just where its firing keeps these (`sheet-lawful`, `lawful-keeps`).
 use Prim.Native.Nat.{_≤_}
 use mathlib.Core.Path.{_≡_}
 use mathlib.Core.List.{List, [], _∷_}
