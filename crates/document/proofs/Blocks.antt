@@ -10,7 +10,7 @@ use lib.Seq.{append-snoc, drop-append-seam}
 use lib.IntN.{ℤ, pos, negsuc, natAbs}
 use Rattle.sheet.specs.declared.Refusal.{Refusal}
 use Rattle.document.specs.Schema.{Line, Row, plain, lineText, fits, within, inRanges, sound, Judged, refused, values, judge}
-use Rattle.document.specs.Reader.{Filled, Sheet, Rule, Paragraph, one, many, to, soundParagraph, soundParagraphs, countLine, rowsText, paragraphText, sheetText, stopped, got, _>>=_, return, judged, readLine, filled, readRows, readParagraph, readParagraphs, RowsKeep, ParagraphKeeps, ParagraphsKeep}
+use Rattle.document.specs.Reader.{Filled, Sheet, Rule, Paragraph, one, many, to, soundParagraph, soundParagraphs, countLine, rowsText, paragraphText, sheetText, stopped, got, _>>=_, return, judged, readLine, filled, readRows, readParagraph, readParagraphs, behind, behindAll, RowsKeep, ParagraphKeeps, ParagraphsKeep}
 use Rattle.document.proofs.Cases.{clash, both, on-none, andThen-got}
 use Rattle.document.proofs.Judged.{is-fit, judge-text, judge-values}
 
@@ -99,19 +99,17 @@ abbrev pub countOf : List Row → Row
 countOf rows = plain (pos (length rows) ∷ [])
 
 pub paragraph-text : (p : Paragraph) (seen : Sheet) (f : Filled) (n : ℕ) (rest : List ℕ) → soundParagraph p ≡ true → ParagraphKeeps p seen f
-    → (m : ℕ) × (readParagraph p seen n (paragraphText p (f .rows) ++ rest) ≡ got (seen ++ (f ∷ [])) m rest)
+    → readParagraph p seen n (paragraphText p (f .rows) ++ rest) ≡ got (seen ++ (f ∷ [])) (behind p (f .rows) n) rest
 paragraph-text (one l rule) seen f n rest s h =
     let a = rows-text l rule seen s (f .rows) [] n rest (h .2) in
     let b = rw (h .1) at a in
-    (n + 1, rw b (ap (λ (x : Sheet). got x (n + 1) rest) (keyed l seen f (h .0))))
+    rw b (ap (λ (x : Sheet). got x (n + 1) rest) (keyed l seen f (h .0)))
 paragraph-text (many key a b l rule) seen f n rest s h =
     let t = both (sound (countLine key a b)) (sound l) s in
     let c = line-text (countLine key a b) (λ row. none) (countOf (f .rows)) n (rowsText l (f .rows) ++ rest) (t .0) (h .1) refl in
-    let d = rows-text l rule seen (t .1) (f .rows) [] (suc n) rest (h .2) in (
-      suc n + length (f .rows),
-      rw (append-assoc (lineText (countLine key a b) (countOf (f .rows))) (rowsText l (f .rows)) rest, c, d)
-          (ap (λ (x : Sheet). got x (suc n + length (f .rows)) rest) (keyed l seen f (h .0))),
-    )
+    let d = rows-text l rule seen (t .1) (f .rows) [] (suc n) rest (h .2) in
+    rw (append-assoc (lineText (countLine key a b) (countOf (f .rows))) (rowsText l (f .rows)) rest, c, d)
+    (ap (λ (x : Sheet). got x (suc n + length (f .rows)) rest) (keyed l seen f (h .0)))
 
 pub record PartRead (p : Paragraph) (seen sheet : Sheet) (text rest : List ℕ) : Type 0 where
   pub part : Filled
@@ -127,7 +125,7 @@ count-numbers a b (pos k ∷ []) e = refl
 count-numbers a b (negsuc k ∷ []) e = clash cc
 count-numbers a b (z ∷ y ∷ zs) e = let f = both (within (to a b) z) false e .1 in clash cc
 
-count-row : (key : List ℕ) (a b : ℕ) (row : Row) → fits (countLine key a b) row ≡ true → row ≡ plain (pos (natAbs (getD (row .numbers) 0 (pos 0))) ∷ [])
+pub count-row : (key : List ℕ) (a b : ℕ) (row : Row) → fits (countLine key a b) row ≡ true → row ≡ plain (pos (natAbs (getD (row .numbers) 0 (pos 0))) ∷ [])
 count-row key a b row h = let f = is-fit (countLine key a b) row h in f .unnamed ∙ ap plain (count-numbers a b (row .numbers) (f .inside))
 
 pub paragraph-got : (p : Paragraph) (seen sheet : Sheet) (n : ℕ) (text : List ℕ) (m : ℕ) (rest : List ℕ) → readParagraph p seen n text ≡ got sheet m rest
@@ -159,16 +157,16 @@ paragraph-got (many key a b l rule) seen sheet n text m rest e =
 
 -- ALL PARTS
 pub paragraphs-text : (ps : List Paragraph) (seen sheet : Sheet) (n : ℕ) (rest : List ℕ) → soundParagraphs ps ≡ true → ParagraphsKeep ps seen sheet
-    → (m : ℕ) × (readParagraphs ps seen n (sheetText ps sheet ++ rest) ≡ got (seen ++ sheet) m rest)
+    → readParagraphs ps seen n (sheetText ps sheet ++ rest) ≡ got (seen ++ sheet) (behindAll ps sheet n) rest
 unfolding readParagraphs sheetText
-paragraphs-text [] seen [] n rest s h = (n, rw append-nil)
+paragraphs-text [] seen [] n rest s h = rw append-nil
 paragraphs-text [] seen (f ∷ sheet) n rest s h = absurd h
 paragraphs-text (p ∷ ps) seen [] n rest s h = absurd h
 paragraphs-text (p ∷ ps) seen (f ∷ sheet) n rest s h =
     let t = both (soundParagraph p) (soundParagraphs ps) s in
     let a = paragraph-text p seen f n (sheetText ps sheet ++ rest) (t .0) (h .0) in
-    let b = paragraphs-text ps (seen ++ (f ∷ [])) sheet (a .0) rest (t .1) (h .1) in
-    (b .0, rw (append-assoc (paragraphText p (f .rows)) (sheetText ps sheet) rest, a .1, ← append-snoc seen f sheet) (b .1))
+    let b = paragraphs-text ps (seen ++ (f ∷ [])) sheet (behind p (f .rows) n) rest (t .1) (h .1) in
+    rw (append-assoc (paragraphText p (f .rows)) (sheetText ps sheet) rest, a, ← append-snoc seen f sheet) b
 
 pub record PartsRead (ps : List Paragraph) (seen all : Sheet) (text rest : List ℕ) : Type 0 where
   pub parts : Sheet

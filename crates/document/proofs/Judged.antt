@@ -7,15 +7,16 @@ use native.Mathlib.Omega.{arith}
 use lib.ListN.{length, drop, length-append, length-map}
 use lib.Seq.{append-snoc, drop-append-seam}
 use lib.Dec.{ltb, eqb}
-use lib.IntN.{ℤ}
+use lib.IntN.{ℤ, natAbs}
 use borrow.Author.Tests.{eq-eqb, lt-ltb, eqb-true, ltb-true}
 use Rattle.text.specs.Decimal.{decimal}
 use Rattle.text.specs.Scanning.{upTo, count, begins}
 use Rattle.text.proofs.Scanning.{upTo-until, upTo-next, begins-key, key-begins}
 use Rattle.sheet.specs.declared.Refusal.the-variants.{NoLineFeed, WrongKey, WrongCount, NotANumber, Outside}
 use Rattle.document.specs.Schema.{Line, Row, plain, joined, bodyText, lineText, inRanges, fits, nines, sound, Judged, refused, values, pieces, onNumbers, Numbers, none-at, all-are, numbersOf, outsideOf, formed, formedBy, ranged, judge}
+use Rattle.document.specs.Rules.{Every}
 use Rattle.document.proofs.Cases.{clash, both, unless-values, on-none}
-use Rattle.document.proofs.Pieces.{pieces-joined, joined-pieces, clear-append, decimals-clear, joined-clear, numbers-decimals, numbers-are, ranges-length, none-outside, all-inside}
+use Rattle.document.proofs.Pieces.{pieces-joined, joined-pieces, clear-append, decimals-clear, joined-clear, numbers-decimals, numbers-are, numbers-small, ranges-length, none-outside, all-inside}
 
 -- WHAT A SOUND LINE AND A FITTING ROW ARE
 pub record IsSound (l : Line) : Type 0 where
@@ -102,6 +103,7 @@ numbers-back row size n (all-are zs) e = (zs, refl, cc, cc)
 pub record Formed (l : Line) (text : List ℕ) (row : Row) (n : ℕ) : Type 0 where
   pub unnamed : row ≡ plain (row .numbers)
   pub many : length (row .numbers) ≡ length (l .fields)
+  pub small : Every (λ z. natAbs z < 1000000000) (row .numbers)
   pub size : n ≡ length (lineText l row)
   pub whole : text ≡ lineText l row ++ drop n text
 
@@ -125,6 +127,7 @@ formed-values l text row n e =
     rw (d .2) (record {
       unnamed = refl;
       many = sym (length-map zs decimal) ∙ ap length (sym p) ∙ m;
+      small = numbers-small 1 (pieces 44 value) zs (d .1);
       size = d .3 ∙ ap (λ (x : List ℕ). suc (length x)) is ∙ sym (line-length l (plain zs));
       whole = rw (← is, append-snoc, d .3) s;
     })

@@ -20,3 +20,7 @@ pub mod Document01
 pub mod Editions
 pub mod Readings
 pub mod Example
+pub mod Stopping
+pub mod Order
+pub mod Causes
+pub mod First

@@ -1,11 +1,11 @@
--- Some, every and no two of a list: of what follows from it, of one more, and of the things a list was made from.
+-- Some and every of a list: of what follows from it, of one more, and of the things a list was made from.
 -- Assumes nothing.
 use Prim.Native.Nat.{ℕ, zero, suc, _<_}
 use mathlib.Core.List.{List, [], _∷_, _++_, map}
 use mathlib.Core.Logic.{_⊎_, inl, inr, ⊎-elim}
 use native.Mathlib.Omega.{arith}
 use lib.ListN.{length, getD, set, replicate}
-use Rattle.document.specs.Rules.{Some, Every, NoTwo}
+use Rattle.document.specs.Rules.{Some, Every}
 
 module _ {A : Type 0} where
   pub every-imp : {P Q : A → Type 0} → ((x : A) → P x → Q x) → (xs : List A) → Every P xs → Every Q xs

@@ -17,7 +17,7 @@ use Rattle.text.specs.Number.{numberOf}
 use Rattle.text.specs.Scanning.{count}
 use Rattle.text.proofs.Scanning.{count-append}
 use Rattle.text.proofs.Decimal.{digits-one, digits-more, by-digits}
-use Rattle.text.proofs.Reading.{read-back, only-text}
+use Rattle.text.proofs.Reading.{read-back, only-text, only-small}
 use Rattle.document.specs.Schema.{Field, joined, within, inRanges, nine, nines, push, pieces, onNumber, onNumbers, Numbers, none-at, all-are, numbersOf, outsideOf}
 use Rattle.document.specs.Rules.{Every}
 use Rattle.document.proofs.Cases.{clash, both}
@@ -155,6 +155,18 @@ numbers-are i (p ∷ ps) zs e = here (numberOf p) refl (numbersOf (suc i) ps) (n
         let u = ih r refl in
         let d = only-text 9 p z q in
         rw (w, ← u, ← d)
+
+-- each has at most nine digits
+pub numbers-small : (i : ℕ) (ps : List (List ℕ)) (zs : List ℤ) → numbersOf i ps ≡ all-are zs → Every (λ z. natAbs z < 1000000000) zs
+unfolding numbersOf
+numbers-small i [] zs e = let w : zs ≡ [] = cc in rw w tt
+numbers-small i (p ∷ ps) zs e = here (numberOf p) refl (numbersOf (suc i) ps) (numbers-small (suc i) ps) e
+  where
+    here : (n : Num) → numberOf p ≡ n → (ns : Numbers) → ((r : List ℤ) → ns ≡ all-are r → Every (λ z. natAbs z < 1000000000) r) →
+        onNumber n (none-at i) (λ z. onNumbers ns none-at (λ r. all-are (z ∷ r))) ≡ all-are zs → Every (λ z. natAbs z < 1000000000) zs
+    here num.NotANumber q ns ih e = clash cc
+    here (num.Value z) q (none-at j) ih e = clash cc
+    here (num.Value z) q (all-are r) ih e = let w : zs ≡ z ∷ r = cc in rw w (only-small 9 p z q, ih r refl)
 
 -- RANGES
 pub ranges-length : (fs : List Field) (zs : List ℤ) → inRanges fs zs ≡ true → length zs ≡ length fs

@@ -13,6 +13,7 @@ use lib.IntN.{ℤ, pos, negsuc}
 use lib.Signed.{leZ, ltZ, _≤ℤ_, _<ℤ_}
 use borrow.Author.Tests.{leb-true, le-leb, eqb-true, eqb-false}
 use Rattle.sheet.specs.declared.Refusal.{Refusal}
+use Rattle.sheet.specs.Refusals.{number}
 use Rattle.sheet.specs.declared.Refusal.the-variants.{Material, Shares, SectionTwice, NoSuchWall, ReadTwice, Missing, Colder, GasTotal}
 use Rattle.sheet.specs.Shown.{same}
 use Rattle.sheet.specs.Firing.{Stage, Section, Wall}
@@ -22,6 +23,7 @@ use Rattle.document.specs.Reader.{Sheet}
 use Rattle.document.specs.Quantities.{gasTotal}
 use Rattle.document.specs.Tests.{alike, any, all, sumOf, weigh, airWeights, counted, isListed, isRead, when, _else_, material-rule, gas-rule, sectionFault, wallFault, wholeFault}
 use Rattle.document.specs.Rules.{Some, Every, MaterialKeeps, GasKeeps, SameNumber, Listed, Staged, SameReading, WallKeeps, IsRead, AllRead, TotalKeeps}
+use Rattle.document.specs.Order.{WallFault, elsewhere, twice, colder, WholeFault, total, missing}
 use Rattle.document.proofs.Cases.{clash, both}
 
 -- A TEST THAT TELLS WHETHER P
@@ -153,6 +155,9 @@ tests-no : {t : Bool} {P : Type 0} → Tests t P → ¬ P → t ≡ false
 tests-no {t = true} h n = absurd (n (h .yes refl))
 tests-no {t = false} h n = refl
 
+tests-yes : {t : Bool} {P : Type 0} → Tests t P → t ≡ false → ¬ P
+tests-yes h e p = let z = h .back p in clash cc
+
 module _ (stages : List Stage) (sections : List Section) (above : List Wall) (w : Wall) where
   listed : Tests (isListed sections (w .section)) (Listed sections w)
   listed = listed-test sections (w .section)
@@ -163,13 +168,30 @@ module _ (stages : List Stage) (sections : List Section) (above : List Wall) (w 
   again : Tests (isRead above (w .section) (w .stage)) (Some (SameReading w) above)
   again = read-test above (w .section) (w .stage)
 
-  colder : Tests (ltZ (w .surface) (w .air)) (w .surface <ℤ w .air)
-  colder = tests-lt (w .surface) (w .air)
+  cold : Tests (ltZ (w .surface) (w .air)) (w .surface <ℤ w .air)
+  cold = tests-lt (w .surface) (w .air)
 
   pub wall-asks : Asks (wallFault stages sections above w) (WallKeeps stages sections above w)
   wall-asks =
       asks-else (asks NoSuchWall listed)
-      (asks-else (asks-not NoSuchWall beyond) (asks-else (asks-not ReadTwice again) (asks-not Colder colder)))
+      (asks-else (asks-not NoSuchWall beyond) (asks-else (asks-not ReadTwice again) (asks-not Colder cold)))
+
+  -- whatever is said of a reading is wrong with it
+  pub wall-said : (x : Refusal) → wallFault stages sections above w ≡ some x → WallFault stages sections above w (number x)
+  wall-said x e = here (isListed sections (w .section)) refl (ltZ (pos (length stages)) (w .stage)) refl
+      (isRead above (w .section) (w .stage)) refl (ltZ (w .surface) (w .air)) refl e
+    where
+      here : (a : Bool) → isListed sections (w .section) ≡ a → (b : Bool) → ltZ (pos (length stages)) (w .stage) ≡ b
+          → (c : Bool) → isRead above (w .section) (w .stage) ≡ c → (d : Bool) → ltZ (w .surface) (w .air) ≡ d
+          → (when (not a) NoSuchWall else when b NoSuchWall else when c ReadTwice else when d Colder) ≡ some x
+          → WallFault stages sections above w (number x)
+      here false p b q c r d t e = let z : x ≡ NoSuchWall = cc in elsewhere (ap number z) (inl (tests-yes listed p))
+      here true p true q c r d t e = let z : x ≡ NoSuchWall = cc in elsewhere (ap number z) (inr (beyond .yes q))
+      here true p false q true r d t e = let z : x ≡ ReadTwice = cc in twice (ap number z) (listed .yes p) (tests-yes beyond q) (again .yes r)
+      here true p false q false r true t e =
+          let z : x ≡ Colder = cc in
+          colder (ap number z) (listed .yes p) (tests-yes beyond q) (tests-yes again r) (cold .yes t)
+      here true p false q false r false t e = clash cc
 
   pub unlisted-heard : ¬ Listed sections w → wallFault stages sections above w ≡ some NoSuchWall
   unlisted-heard n = rw (tests-no listed n)
@@ -181,7 +203,7 @@ module _ (stages : List Stage) (sections : List Section) (above : List Wall) (w 
   twice-heard l s r = rw (listed .back l, tests-no beyond s, again .back r)
 
   pub colder-heard : Listed sections w → Staged stages w → ¬ Some (SameReading w) above → w .surface <ℤ w .air → wallFault stages sections above w ≡ some Colder
-  colder-heard l s n c = rw (listed .back l, tests-no beyond s, tests-no again n, colder .back c)
+  colder-heard l s n c = rw (listed .back l, tests-no beyond s, tests-no again n, cold .back c)
 
 -- OF THE WHOLE SHEET, and 10 before 8
 module _ (stages : List Stage) (sections : List Section) (walls : List Wall) where
@@ -193,6 +215,16 @@ module _ (stages : List Stage) (sections : List Section) (walls : List Wall) whe
 
   pub whole-asks : Asks (wholeFault stages sections walls) (TotalKeeps stages × AllRead stages sections walls)
   whole-asks = asks-else (asks GasTotal total-test) (asks Missing all-read-test)
+
+  pub whole-said : (x : Refusal) → wholeFault stages sections walls ≡ some x → WholeFault stages sections walls (number x)
+  whole-said x e = here (within gasTotal (totalGas stages)) refl _ refl e
+    where
+      here : (a : Bool) → within gasTotal (totalGas stages) ≡ a
+          → (b : Bool) → all (λ y. all (isRead walls (y .number)) (counted (length stages))) sections ≡ b
+          → (when (not a) GasTotal else when (not b) Missing) ≡ some x → WholeFault stages sections walls (number x)
+      here false p b q e = let z : x ≡ GasTotal = cc in total (ap number z) (tests-yes total-test p)
+      here true p false q e = let z : x ≡ Missing = cc in missing (ap number z) (total-test .yes p) (tests-yes all-read-test q)
+      here true p true q e = clash cc
 
   pub total-heard : ¬ TotalKeeps stages → wholeFault stages sections walls ≡ some GasTotal
   total-heard n = rw (tests-no total-test n)

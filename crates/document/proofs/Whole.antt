@@ -7,7 +7,7 @@ use lib.ListN.{length}
 use lib.Dec.{ltb}
 use borrow.Author.Tests.{le-ltb}
 use Rattle.sheet.specs.declared.Refusal.the-variants.{TooLong}
-use Rattle.document.specs.Reader.{Sheet, Document, Sound, paragraphText, sheetText, textOf, Read, stopped, got, readParagraph, readParagraphs, readLines, Refused, Good, judgedWhole, readOf, LinesKeep, Keeps}
+use Rattle.document.specs.Reader.{Sheet, Document, Sound, paragraphText, sheetText, textOf, Read, stopped, got, readParagraph, readParagraphs, readLines, behind, Refused, Good, judgedWhole, readOf, LinesKeep, Keeps}
 use Rattle.document.proofs.Cases.{clash, on-none, andThen-got}
 use Rattle.document.proofs.Blocks.{followed, paragraph-text, paragraph-got, paragraphs-text, paragraphs-got}
 use Rattle.document.proofs.Sizes.{never-too-long}
@@ -18,21 +18,21 @@ unfolding readOf textOf
 accepted d s [] k = absurd (k .lines)
 accepted d s (f ∷ fs) k =
     let a = paragraph-text (d .first) [] f 1 (sheetText (d .below (f ∷ [])) fs) (s .first) (k .lines .0) in
-    let b = paragraphs-text (d .below (f ∷ [])) (f ∷ []) fs (a .0) [] (s .below (f ∷ [])) (k .lines .1) in
-    let c = rw append-nil at (b .1) in
+    let b = paragraphs-text (d .below (f ∷ [])) (f ∷ []) fs (behind (d .first) (f .rows) 1) [] (s .below (f ∷ [])) (k .lines .1) in
+    let c = rw append-nil at b in
     let short = le-ltb 16384 (length (textOf d (f ∷ fs))) (never-too-long d s (f ∷ fs) (k .lines)) in
-    rw (short, a .1, c, k .whole)
+    rw (short, a, c, k .whole)
 
 -- EVERY ACCEPTED TEXT is the text of the sheet that was read, and this sheet keeps the rules
 pub record Accepted (d : Document) (text : List ℕ) (sheet : Sheet) : Type 0 where
   pub its : text ≡ textOf d sheet
   pub keeps : Keeps d sheet
 
-record LinesRead (d : Document) (sheet : Sheet) (text rest : List ℕ) : Type 0 where
-  kept : LinesKeep d sheet
-  whole : text ≡ textOf d sheet ++ rest
+pub record LinesRead (d : Document) (sheet : Sheet) (text rest : List ℕ) : Type 0 where
+  pub kept : LinesKeep d sheet
+  pub whole : text ≡ textOf d sheet ++ rest
 
-lines-got : (d : Document) (sheet : Sheet) (text : List ℕ) (n : ℕ) (rest : List ℕ) → readLines d 1 text ≡ got sheet n rest → LinesRead d sheet text rest
+pub lines-got : (d : Document) (sheet : Sheet) (text : List ℕ) (n : ℕ) (rest : List ℕ) → readLines d 1 text ≡ got sheet n rest → LinesRead d sheet text rest
 unfolding textOf
 lines-got d sheet text n rest e =
     let s = andThen-got (readParagraph (d .first) [] 1 text) (λ top. readParagraphs (d .below top) top) sheet n rest e in

@@ -9,3 +9,4 @@ pub mod Document01
 pub mod Editions
 pub mod Rules
 pub mod Lawful
+pub mod Order

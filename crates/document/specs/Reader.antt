@@ -1,5 +1,5 @@
 -- What the reader says to a text, and what an accepted sheet keeps: over any document.
-use Prim.Native.Nat.{ℕ, zero, suc}
+use Prim.Native.Nat.{ℕ, zero, suc, _+_}
 use mathlib.Core.Path.{_≡_}
 use mathlib.Core.List.{List, [], _∷_, _++_}
 use mathlib.Core.Option.{Option, none}
@@ -83,6 +83,16 @@ judgedWhole d (got sheet n (b ∷ bs)) = Refused Surplus n
 
 unfoldable pub readOf : Document → List ℕ → Answer
 readOf d text = cond (ltb 16384 (length text)) (Refused TooLong 0) (judgedWhole d (readLines d 1 text))
+
+-- the number of the line behind a paragraph that begins at line n, and behind all paragraphs
+abbrev pub behind : Paragraph → List Row → ℕ → ℕ
+behind (one l rule) rows n = n + 1
+behind (many key a b l rule) rows n = suc n + length rows
+
+abbrev pub behindAll : List Paragraph → Sheet → ℕ → ℕ
+behindAll [] sheet n = n
+behindAll (p ∷ ps) [] n = n
+behindAll (p ∷ ps) (f ∷ fs) n = behindAll ps fs (behind p (f .rows) n)
 
 -- WHAT A SHEET KEEPS: every row in range, and no rule against it, given the rows above it
 abbrev pub RowsKeep : Line → Rule → Sheet → List Row → List Row → Type 0

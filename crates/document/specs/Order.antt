@@ -1,0 +1,129 @@
+-- THE FIRST REFUSAL THAT APPLIES, as in document 01: 1 first; then the lines from the top, in each 2 before 3, 3 before the others, these by
+-- rising number; then 10, then 8. A line is looked at where it is due: all lines above it are good.
+use Prim.Native.Nat.{ℕ, suc, _+_, _≤_, _<_}
+use mathlib.Core.Path.{_≡_}
+use mathlib.Core.List.{List, [], _∷_, _++_}
+use mathlib.Core.Logic.{_⊎_}
+use mathlib.Core.Option.{Option, none}
+use lib.ListN.{length}
+use lib.IntN.{pos, natAbs}
+use lib.Signed.{_<ℤ_}
+use Rattle.sheet.specs.declared.Refusal.{Refusal}
+use Rattle.sheet.specs.Refusals.{number}
+use Rattle.sheet.specs.Firing.{Stage, Section, Wall}
+use Rattle.document.specs.Schema.{Line, Row, plain, lineText}
+use Rattle.document.specs.Reader.{Filled, Sheet, Rule, Paragraph, one, many, to, countLine, filled, paragraphText, rowsText, textOf, behind, behindAll, RowsKeep, ParagraphKeeps, LinesKeep, Refused, readOf}
+use Rattle.document.specs.Tests.{material-rule, gas-rule, section-rule, wall-rule}
+use Rattle.document.specs.Editions.{document}
+use Rattle.document.specs.Rows.{sectionOf, editionIn, stagesIn, sectionsIn, wallAs, wallsIn}
+use Rattle.document.specs.Rules.{Some, Every, MaterialKeeps, GasKeeps, SameNumber, Listed, Staged, SameReading, AllRead, TotalKeeps}
+use Rattle.document.specs.Lawful.{In, InRanges}
+
+-- A LINE THAT IS DUE: its number, its key and fields, what it must keep given all above it, and the text from it on
+pub record DueLine : Type 0 where
+  pub number : ℕ
+  pub line : Line
+  pub rule : Row → Option Refusal
+  pub rest : List ℕ
+
+-- .. in a block, behind its count and behind good rows that are fewer
+pub record InBlock (key : List ℕ) (a b : ℕ) (l : Line) (rule : Rule) (seen : Sheet) (n : ℕ) (s : List ℕ) (d : DueLine) : Type 0 where
+  pub count : ℕ
+  pub counted : In (to a b) (pos count)
+  pub rows : List Row
+  pub fewer : length rows < count
+  pub good : RowsKeep l rule seen [] rows
+  pub whole : s ≡ lineText (countLine key a b) (plain (pos count ∷ [])) ++ (rowsText l rows ++ d .rest)
+  pub place : d ≡ record { number = suc n + length rows; line = l; rule = rule (seen ++ filled l rows); rest = d .rest }
+
+abbrev pub InParagraph : Paragraph → Sheet → ℕ → List ℕ → DueLine → Type 0
+InParagraph (one l rule) seen n s d = d ≡ record { number = n; line = l; rule = rule (seen ++ filled l []); rest = s }
+InParagraph (many key a b l rule) seen n s d =
+    (d ≡ record { number = n; line = countLine key a b; rule = λ row. none; rest = s }) ⊎ InBlock key a b l rule seen n s d
+
+-- .. behind a paragraph that is good
+pub record Behind (p : Paragraph) (seen : Sheet) (n : ℕ) (s : List ℕ) (Next : Filled → ℕ → List ℕ → Type 0) : Type 0 where
+  pub said : Filled
+  pub left : List ℕ
+  pub good : ParagraphKeeps p seen said
+  pub whole : s ≡ paragraphText p (said .rows) ++ left
+  pub next : Next said (behind p (said .rows) n) left
+
+abbrev pub InParagraphs : List Paragraph → Sheet → ℕ → List ℕ → DueLine → Type 0
+InParagraphs [] seen n s d = ⊥
+InParagraphs (p ∷ ps) seen n s d = InParagraph p seen n s d ⊎ Behind p seen n s (λ f m left. InParagraphs ps (seen ++ (f ∷ [])) m left d)
+
+abbrev pub Due : List ℕ → DueLine → Type 0
+Due s d =
+    InParagraph (document .first) [] 1 s d
+    ⊎ Behind (document .first) [] 1 s (λ f m left. InParagraphs (document .below (f ∷ [])) (f ∷ []) m left d)
+
+-- THE FORM OF A LINE: its key, as many numbers as it has fields, each of at most nine digits, and its LF
+pub record Says (d : DueLine) (row : Row) : Type 0 where
+  pub nameless : row .name ≡ []
+  pub many : length (row .numbers) ≡ length (d .line .fields)
+  pub small : Every (λ z. natAbs z < 1000000000) (row .numbers)
+  pub more : List ℕ
+  pub whole : d .rest ≡ lineText (d .line) row ++ more
+
+-- .. and in its ranges
+pub record SaysIn (d : DueLine) (row : Row) : Type 0 where
+  pub says : Says d row
+  pub within : InRanges (d .line .fields) (row .numbers)
+
+-- A LINE OF A TEXT that is looked at
+pub record Looked (s : List ℕ) : Type 0 where
+  pub short : length s ≤ 16384
+  pub at : DueLine
+  pub due : Due s at
+
+-- WHAT IS WRONG WITH A READING, given what stands above it: 6, then 7, then 9
+pub data WallFault (stages : List Stage) (sections : List Section) (above : List Wall) (w : Wall) (k : ℕ) : Type 0 where
+  elsewhere : k ≡ 6 → (¬ Listed sections w) ⊎ (pos (length stages) <ℤ w .stage) → WallFault stages sections above w k
+  twice : k ≡ 7 → Listed sections w → Staged stages w → Some (SameReading w) above → WallFault stages sections above w k
+  colder : k ≡ 9 → Listed sections w → Staged stages w → ¬ Some (SameReading w) above → w .surface <ℤ w .air → WallFault stages sections above w k
+
+-- .. with a row, by the rule that is due there, given what was read above it: 4 to 9
+pub data RowFault (rule : Row → Option Refusal) (row : Row) (k : ℕ) : Type 0 where
+  ofMaterial : k ≡ 4 → (i : ℕ) (seen : Sheet) → rule ≡ material-rule i seen → ¬ MaterialKeeps i row → RowFault rule row k
+  ofGas : k ≡ 5 → (seen : Sheet) → rule ≡ gas-rule seen → ¬ GasKeeps row → RowFault rule row k
+  ofSection : k ≡ 6 → (seen : Sheet) → rule ≡ section-rule seen → Some (SameNumber (sectionOf row)) (sectionsIn seen) → RowFault rule row k
+  ofWall : (seen : Sheet) → rule ≡ wall-rule seen
+      → WallFault (stagesIn seen) (sectionsIn seen) (wallsIn seen) (wallAs (editionIn seen) row) k → RowFault rule row k
+
+-- .. with a whole sheet: 10, then 8
+pub data WholeFault (stages : List Stage) (sections : List Section) (walls : List Wall) (k : ℕ) : Type 0 where
+  total : k ≡ 10 → ¬ TotalKeeps stages → WholeFault stages sections walls k
+  missing : k ≡ 8 → TotalKeeps stages → ¬ AllRead stages sections walls → WholeFault stages sections walls k
+
+-- ALL LINES ARE GOOD, and this is left behind `end`
+pub record AllGood (s : List ℕ) (sheet : Sheet) (left : List ℕ) : Type 0 where
+  pub good : LinesKeep document sheet
+  pub whole : s ≡ textOf document sheet ++ left
+
+-- the number of the line behind `end`
+abbrev pub last : Sheet → ℕ
+last [] = 1
+last (f ∷ fs) = behindAll (document .below (f ∷ [])) fs (behind (document .first) (f .rows) 1)
+
+-- THE FIRST REFUSAL THAT APPLIES to a text is number k, at line n
+pub data First (s : List ℕ) (k n : ℕ) : Type 0 where
+  tooLong : k ≡ 1 → n ≡ 0 → 16384 < length s → First s k n
+  -- the lines from the top: a line is due, and ..
+  unformed : k ≡ 2 → (a : Looked s) → n ≡ a .at .number → ((row : Row) → ¬ Says (a .at) row) → First s k n
+  outside : k ≡ 3 → (a : Looked s) → n ≡ a .at .number → (row : Row) → Says (a .at) row → ¬ InRanges (a .at .line .fields) (row .numbers) → First s k n
+  broken : (a : Looked s) → n ≡ a .at .number → (row : Row) → SaysIn (a .at) row → RowFault (a .at .rule) row k → First s k n
+  -- all lines are good, and bytes follow `end`; or nothing follows
+  surplus : k ≡ 2 → length s ≤ 16384 → (sheet : Sheet) (b : ℕ) (left : List ℕ) → AllGood s sheet (b ∷ left) → n ≡ last sheet → First s k n
+  ofAll : n ≡ 0 → (sheet : Sheet) → AllGood s sheet [] → WholeFault (stagesIn sheet) (sectionsIn sheet) (wallsIn sheet) k → First s k n
+
+-- what is said to a text: a refusal with this number and this line
+pub record Hears (s : List ℕ) (k n : ℕ) : Type 0 where
+  pub refusal : Refusal
+  pub is : readOf document s ≡ Refused refusal n
+  pub numbered : number refusal ≡ k
+
+-- A REFUSAL IS GIVEN EXACTLY WHEN it is the first that applies
+pub record Exactly (s : List ℕ) (k n : ℕ) : Type 0 where
+  pub first : Hears s k n → First s k n
+  pub heard : First s k n → Hears s k n
