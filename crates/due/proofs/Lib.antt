@@ -1,4 +1,5 @@
 pub mod Places
+pub mod Unique
 pub mod Ranges
 pub mod Chain
 pub mod Lines
