@@ -7,11 +7,10 @@ ghost use lib.IntN.{ℤ, pos, _+ℤ_, _*ℤ_};
 ghost use Rattle.sheet.specs.Firing.{Firing};
 ghost use Rattle.sheet.specs.Block.{totalGas};
 ghost use Rattle.formulas.specs.Rounding.{paper};
-ghost use Rattle.formulas.specs.Formulas.{joule, q1, q2};
+ghost use Rattle.formulas.specs.Formulas.{joule, gasHeat, q1};
 ghost use Rattle.formulas.specs.Figures.{Figure};
 ghost use Rattle.formulas.specs.Sizes.{q1Most, q2Most};
 ghost use Rattle.formulas.specs.Steps.{ProductFits, over};
-ghost use Rattle.burning.specs.Mixture.{Warmed};
 ghost use Rattle.burning.specs.Steps.{MixedFits, FuelIn, WarmFuelIn};
 use formulas::rounding::Quotient;
 use mixture::Warmth;
@@ -51,8 +50,7 @@ fn brought(gas: GasTotal, c: MixedHeat, rise: Rise) -> Quotient
 // The fuel's heat above the base temperature.
 pub fn q2(gas: GasTotal, warmth: Warmth, at: Degrees, t: Degrees) -> Joules
     requires { ⌜ WarmFuelIn (gas .0) (warmth .cold) (warmth .rise) (at .0) (t .0) ⌝ }
-    ensures { λ r. ⌜ ((f : Firing) → totalGas (f .stages) ≡ gas .0 → Warmed (f .gas) warmth → f .fuel .temperature ≡ at .0 → f .ambient ≡ t .0 →
-        Figure joule q2Most (r .0) (q2 f paper)) ⌝ }
+    ensures { λ r. ⌜ Figure joule q2Most (r .0) (gasHeat paper (gas .0) (warmth .cold *ℤ pos 1000 +ℤ warmth .rise *ℤ at .0) (at .0) (t .0)) ⌝ }
 {
     brought(gas, mixed_heat(warmth, at), at.above(t)).joules()
 }

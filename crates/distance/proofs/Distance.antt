@@ -25,7 +25,7 @@ use Rattle.document.specs.Rows.{firingOf}
 use Rattle.document.specs.Lawful.{In, StageIn, SectionIn, Lawful}
 use Rattle.document.proofs.Editions.{firing-lawful}
 use Rattle.formulas.specs.Rounding.{Rounding, paper}
-use Rattle.formulas.specs.Formulas.{joule, sensible, q1, q2, q3, q5, q8, x1, x2, x3, x5, x10, dryFlue, vapourRate, vapour, dryHeat, vapourHeat, flueHeat, monoxideHeat, x7, x8, noStage, numbered, sectionOf, stageOf, convection, radiation, flux, wallHeat, x9, waterHeat, useful, withset}
+use Rattle.formulas.specs.Formulas.{gasHeat, joule, sensible, q1, q2, q3, q5, q8, x1, x2, x3, x5, x10, dryFlue, vapourRate, vapour, dryHeat, vapourHeat, flueHeat, monoxideHeat, x7, x8, noStage, numbered, sectionOf, stageOf, convection, radiation, flux, wallHeat, x9, waterHeat, useful, withset}
 use Rattle.formulas.specs.Items.{Quantity, Item, item, Sides, shuttle, total, x11, heats}
 use Rattle.formulas.specs.Report.{Line, number, heat, share, itemLine, shares, lines, printed}
 use Rattle.distance.specs.Demand.{Stand, cutDown, oneMore, standIn, Enclosed, Choice, against, surface, thousand, allowed, leeway, Within, Near, Demand3}
@@ -96,7 +96,7 @@ module _ (f : Firing) (h : Lawful f) (choice : Choice) where
   q1-off = known same
 
   q2-off : Bound q2
-  unfolding q2
+  unfolding q2 gasHeat
   q2-off = known (rounded (lit< tt) same)
 
   q3-off : Bound q3

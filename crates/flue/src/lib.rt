@@ -4,11 +4,10 @@ ghost use Prim.Native.Nat.{_*_, _^_};
 ghost use lib.IntN.{ℤ, pos, _+ℤ_, _-ℤ_, _*ℤ_};
 ghost use mir.Syntax.{w64};
 ghost use mir.Val.{SFits};
-ghost use Rattle.sheet.specs.Firing.{Firing};
 ghost use Rattle.sheet.specs.Shown.{stage as stageOf};
-ghost use Rattle.sheet.specs.Block.{stagesOf};
+ghost use Rattle.sheet.specs.Block.{sum, stagesOf};
 ghost use Rattle.formulas.specs.Rounding.{paper};
-ghost use Rattle.formulas.specs.Formulas.{joule, Burning as AnyBurning, burning as burningIn, x7, x8};
+ghost use Rattle.formulas.specs.Formulas.{joule, Burning as AnyBurning};
 ghost use Rattle.formulas.specs.Formulas.{vapourRate, vapour, dryHeat, vapourHeat, flueHeat, monoxideHeat};
 ghost use Rattle.formulas.specs.Figures.{Figure};
 ghost use Rattle.formulas.specs.Sizes.{vapourRateMost, vapourMassMost, dryHeatMost, vapourHeatMost, flueHeatMost, monoxideHeatMost};
@@ -186,10 +185,8 @@ fn stage_heats(burning: Burning, moisture: Moisture, stage: Stage, t: Degrees) -
 // Both heats of all stages.
 pub fn flue_heats(burning: Burning, moisture: Moisture, stages: Stages, t: Degrees) -> FlueHeats
     requires { ⌜ AllFlueIn (burningOf burning) (moisture .0) (stagesOf stages) (t .0) ⌝ }
-    ensures { λ r. ⌜ ((f : Firing) → burningIn f ≡ burningOf burning → f .moisture ≡ moisture .0 → f .stages ≡ stagesOf stages → f .ambient ≡ t .0 →
-        Figure joule x7Most (r .x7 .0) (x7 f paper)) ⌝ }
-    ensures { λ r. ⌜ ((f : Firing) → burningIn f ≡ burningOf burning → f .stages ≡ stagesOf stages →
-        Figure joule x8Most (r .x8 .0) (x8 f paper)) ⌝ }
+    ensures { λ r. ⌜ Figure joule x7Most (r .x7 .0) (sum (flueHeat paper (burningOf burning) (moisture .0) (t .0)) (stagesOf stages)) ⌝ }
+    ensures { λ r. ⌜ Figure joule x8Most (r .x8 .0) (sum (monoxideHeat paper (burningOf burning)) (stagesOf stages)) ⌝ }
 {
     let lines = stages.lines;
     let count = held(stages.count.0, 12);

@@ -38,12 +38,16 @@ sensible r m x T T₀ = r .to joule (parts (10 ^ 6) (m *ℤ specificHeat x T *�
 unfoldable pub mixedHeat : Gas → ℤ → ℤ
 mixedHeat g T = weigh (map (λ k. k .cold *ℤ pos 1000 +ℤ (k .hot -ℤ k .cold) *ℤ T) tableA1) (gasRow g .numbers)
 
+-- n c (T − T₀) of n tenths of a cubic metre, with such a c
+unfoldable pub gasHeat : Rounding → ℤ → ℤ → ℤ → ℤ → ℤ
+gasHeat r n c T T₀ = r .to joule (parts (10 ^ 9) (n *ℤ c *ℤ (T -ℤ T₀)))
+
 module _ (f : Firing) (r : Rounding) where
   unfoldable pub q1 : ℤ
   q1 = parts 1 (totalGas (f .stages) *ℤ f .fuel .heating *ℤ pos 100)
 
   unfoldable pub q2 : ℤ
-  q2 = r .to joule (parts (10 ^ 9) (totalGas (f .stages) *ℤ mixedHeat (f .gas) (f .fuel .temperature) *ℤ (f .fuel .temperature -ℤ f .ambient)))
+  q2 = gasHeat r (totalGas (f .stages)) (mixedHeat (f .gas) (f .fuel .temperature)) (f .fuel .temperature) (f .ambient)
 
   unfoldable pub q3 : ℤ
   q3 = sum (λ x. sensible r (x .mass) (x .stuff) (x .entry) (f .ambient)) (f .setters)

@@ -3,15 +3,16 @@ use Prim.Native.Nat.{ℕ, _*_, _/_, _^_}
 use mathlib.Core.Bool.{Bool, true, _&&_}
 use mathlib.Core.List.{List, [], _∷_}
 use lib.Dec.{T, eqb}
-use lib.IntN.{ℤ, pos, _*ℤ_}
+use lib.IntN.{ℤ, pos}
 use Rattle.arith.specs.Nearest.{nearest, nearestℕ, tie}
 use Rattle.arith.specs.Root.{root, rootIn}
 use Rattle.sheet.specs.Firing.{Gas, Stuff, Stage, Section, Wall, Firing}
 use Rattle.sheet.specs.Shown.{same}
 use Rattle.sheet.specs.Block.{sum}
 use Rattle.formulas.specs.Rounding.{paper}
-use Rattle.formulas.specs.Formulas.{joule, specificHeat, sensible, mixedHeat, theoreticalAir, dryOfGas, vapourOfGas, ofGas, dryFlue, vapourRate, vapour, dryHeat, vapourHeat, flueHeat, monoxideHeat, numbered, convection, radiation, flux, wallHeat, q1, q2, q3, q5, q8, x1, x2, x3, x5, x7, x8, x9, x10, waterHeat, useful, withset}
+use Rattle.formulas.specs.Formulas.{joule, specificHeat, sensible, mixedHeat, gasHeat, theoreticalAir, dryOfGas, vapourOfGas, ofGas, dryFlue, vapourRate, vapour, dryHeat, vapourHeat, flueHeat, monoxideHeat, numbered, convection, radiation, flux, wallHeat, q1, q2, q3, q5, q8, x1, x2, x3, x5, x7, x8, x9, x10, waterHeat, useful, withset}
 use Rattle.formulas.specs.Items.{shuttle, total, x11}
+use Rattle.formulas.specs.Report.{heat, share, printed}
 
 abbrev methane : Gas
 methane = record {
@@ -108,8 +109,8 @@ cases =
     ∷ case (useful worked paper) 2049277500 joule
     ∷ case (withset worked paper) 2649277500 joule
     -- printed per tonne, 2,049,277.5 is 2,049,278; and over q1, in 0.01 %
-    ∷ case (nearest (useful worked paper *ℤ pos 10) (10000 * joule)) 2049278 1
-    ∷ case (nearest (useful worked paper *ℤ pos 10000) (7000000000 * joule)) 2928 1
+    ∷ case (printed worked (heat useful)) 2049278 1
+    ∷ case (printed worked (share useful)) 2928 1
     ∷ []
 
 holds : List Case → Bool
@@ -117,7 +118,7 @@ holds [] = true
 holds (c ∷ l) = same (c .computed) (pos (c .said * c .unit)) && holds l
 
 marked : T (holds cases)
-unfolding holds cases nearest nearestℕ tie root rootIn sum specificHeat sensible mixedHeat theoreticalAir dryOfGas vapourOfGas ofGas dryFlue vapourRate
+unfolding holds cases printed nearest nearestℕ tie root rootIn sum specificHeat sensible mixedHeat gasHeat theoreticalAir dryOfGas vapourOfGas ofGas dryFlue vapourRate
     vapour dryHeat vapourHeat flueHeat monoxideHeat numbered convection radiation flux wallHeat
     q1 q2 q3 q5 q8 x1 x2 x3 x5 x7 x8 x9 x10 total x11 waterHeat useful withset
 marked = tt

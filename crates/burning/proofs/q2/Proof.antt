@@ -4,7 +4,7 @@ use Prim.Native.Nat.{_/_, _^_}
 use borrow.Author.Needs.{needs}
 use lib.IntN.{ℤ, pos}
 use Rattle.arith.proofs.Machine.{Known, Mx, raw, num, _⟨+⟩_, _⟨-⟩_, _⟨*⟩_}
-use Rattle.formulas.specs.Formulas.{joule, q2}
+use Rattle.formulas.specs.Formulas.{joule, gasHeat}
 use Rattle.burning.specs.Steps.{WarmFuelIn}
 use Rattle.formulas.proofs.Units.{units}
 use Rattle.formulas.proofs.Sizes.{limits, within, fit, rounded}
@@ -35,13 +35,11 @@ joules-requires : tie.Need-joules-requires
 joules-requires c κs = rw (c .brought .ensures) (search needs)
 
 returns : tie.Need-returns
-unfolding q2
+unfolding gasHeat
 returns c =
     let s = c .before .before .before .before in
-    λ f e₁ w e₂ e₃.
-    rw (e₁, e₂, e₃, ← w .heat (s .args .at .0))
-    (rounded (known (s .pre)) (raw 0 ⟨*⟩ mixed ⟨*⟩ (raw 3 ⟨-⟩ raw 4)) (10 ^ 9) (joule / 10 ^ 9) tt units
-    (rw (c .joules .ensures, c .before .brought .ensures, c .before .before .above .ensures, c .before .before .before .mixed-heat .ensures)))
+    rounded (known (s .pre)) (raw 0 ⟨*⟩ mixed ⟨*⟩ (raw 3 ⟨-⟩ raw 4)) (10 ^ 9) (joule / 10 ^ 9) tt units
+    (rw (c .joules .ensures, c .before .brought .ensures, c .before .before .above .ensures, c .before .before .before .mixed-heat .ensures))
 
 pub q2-spec : {M : Type 1} → statement M
 q2-spec = tie.close (tie.spec mixed-heat-requires above-requires brought-requires joules-requires returns)

@@ -10,7 +10,7 @@ use Rattle.sheet.specs.Shown.{stage}
 use Rattle.sheet.proofs.Sums.{unmapped, blankStage}
 use Rattle.document.specs.Lawful.{StageIn}
 use Rattle.formulas.specs.Rounding.{paper}
-use Rattle.formulas.specs.Formulas.{joule, flueHeat, monoxideHeat, x7, x8}
+use Rattle.formulas.specs.Formulas.{joule, flueHeat, monoxideHeat}
 use Rattle.document.specs.Quantities.{stagesMost}
 use Rattle.formulas.specs.Sizes.{flueHeatMost, monoxideHeatMost}
 use Rattle.burning.specs.Mixture.{burning as burningOf}
@@ -62,14 +62,12 @@ plus-requires-2 c κs =
     more-fits (c .before .before .before .before .loop .inv .1 .two) (c .before .stage-heats .ensures .1) stagesMost (omega arith) tt
 
 returns : tie.Need-returns Inv-loop μ-loop
-unfolding x7 x8
 returns c =
     let s = c .before .before .before .before in
     let l = c .before .loop in
     let n = s .args .stages .count .0 in
     let e : l .i ≡ min n stagesMost = omega arith in
-    let sums = ended n stagesMost (long s) e (l .inv .1) in
-    (λ f e₀ e₁ e₂ e₃. rw (e₀, e₁, e₂, e₃) (sums .0), λ f e₀ e₁. rw (e₀, e₁) (sums .1))
+    ended n stagesMost (long s) e (l .inv .1)
 
 pub flue-heats-spec : {M : Type 1} → statement M
 flue-heats-spec =

@@ -2,11 +2,10 @@
 use mathlib.Core.Path.{_≡_, sym, _∙_, subst}
 use borrow.Author.Needs.{needs}
 use Rattle.limits.proofs.Laws.{passed}
-use Rattle.sheet.specs.Firing.{Gas}
 use Rattle.sheet.specs.Block.{totalGas, stagesOf}
 use Rattle.document.specs.Quantities.{gasTotal}
 use Rattle.document.specs.Lawful.{In}
-use Rattle.burning.specs.Mixture.{Warmed}
+use Rattle.formulas.specs.Formulas.{q2}
 use Rattle.heat.proofs.Kept.{own, field}
 use Rattle.heat.proofs.fuel_heat.Statement.{statement}
 use Rattle.heat.proofs.fuel_heat.Tie as tie
@@ -51,16 +50,20 @@ q2-requires c κs =
     }
 
 returns : tie.Need-returns
+unfolding q2
 returns c =
     let known = c .before .before in
     let gas = gas-is (checked known) in
     let warmth = known .before .before .warmth-of in
     λ f k. (
       c .before .q1 .ensures f (field k (λ g. totalGas (g .stages)) ∙ sym gas) (field k (λ g. g .fuel .heating)),
-      c .q2 .ensures f (field k (λ g. totalGas (g .stages)) ∙ sym gas)
-          (subst (λ (g : Gas). Warmed g (warmth .result)) (sym (field k (λ g. g .gas))) (warmth .ensures))
-          (field k (λ g. g .fuel .temperature) ∙ sym (known .before .degrees .ensures))
-          (field k (λ g. g .ambient) ∙ sym (known .degrees2 .ensures)),
+      rw (
+          field k (λ g. totalGas (g .stages)) ∙ sym gas,
+          field k (λ g. g .gas),
+          field k (λ g. g .fuel .temperature) ∙ sym (known .before .degrees .ensures),
+          field k (λ g. g .ambient) ∙ sym (known .degrees2 .ensures),
+          ← warmth .ensures .heat (known .before .degrees .result .0),
+      ) (c .q2 .ensures),
     )
 
 pub fuel-heat-spec : {M : Type 1} → statement M

@@ -3,7 +3,7 @@ use mathlib.Core.Path.{sym, _∙_}
 use borrow.Author.Needs.{needs}
 use Rattle.sheet.specs.declared.Sheet.{Sheet}
 use Rattle.sheet.specs.Firing.{Firing}
-use Rattle.formulas.specs.Formulas.{burning}
+use Rattle.formulas.specs.Formulas.{burning, x7, x8}
 use Rattle.formulas.proofs.Sizes.{sized}
 use Rattle.surface.specs.Cells.{Seen}
 use Rattle.heat.specs.Balance.{Kept}
@@ -66,6 +66,7 @@ water-heat-requires : tie.Need-water-heat-requires
 water-heat-requires c κs = let l = own (S (D₈ (c .before .before)) .pre .1) in record { water = l .water; entry = l .ware .entry }
 
 returns : tie.Need-returns
+unfolding x7 x8
 returns c =
     let taken = c .before .before .before .before in
     let w = taken .before .before .before .before in
@@ -91,8 +92,8 @@ returns c =
       x2 = x2 .x2 .ensures f (field k (λ g. g .water)) t;
       x3 = x3 .x3 .ensures f (field k (λ g. g .clay));
       x5 = setters .setter-heats .ensures .1 f (field k (λ g. g .setters)) (field k (λ g. g .ware .highest));
-      x7 = flue .flue-heats .ensures .0 f burnt (field k (λ g. g .moisture)) (field k (λ g. g .stages)) t;
-      x8 = flue .flue-heats .ensures .1 f burnt (field k (λ g. g .stages));
+      x7 = rw (burnt, field k (λ g. g .moisture), field k (λ g. g .stages), t) (flue .flue-heats .ensures .0);
+      x8 = rw (burnt, field k (λ g. g .stages)) (flue .flue-heats .ensures .1);
       x9 = x9 .x9 .ensures f (seen k);
       x10 = parts .part-heats .ensures .1 f (field k (λ g. g .parts)) t;
       water = w .water-heat .ensures f (field k (λ g. g .water)) (field k (λ g. g .ware .entry));
