@@ -1,3 +1,2 @@
 pub mod Off
 pub mod Distance
-pub mod Worked

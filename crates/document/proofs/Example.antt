@@ -8,12 +8,11 @@ use mathlib.Core.Bool.{Bool, true, _&&_}
 use lib.ListN.{replicate}
 use Rattle.text.specs.Bytes.{bytes}
 use Rattle.text.specs.Number.{digitsRead, unsigned, numberWithin}
-use Rattle.text.specs.Decimal.{digitsIn, digits, decimal}
 use Rattle.text.specs.Scanning.{upTo, begins}
 use Rattle.sheet.specs.Refusals as refusals
 use Rattle.sheet.specs.Block.{sum}
-use Rattle.document.specs.Schema.{joined, bodyText, lineText, pieces, numbersOf, formedBy, outsideOf, judge}
-use Rattle.document.specs.Reader.{rowsText, sheetText, textOf, readLine, readRows, readParagraphs, Answer, Refused, Good, readOf, sameKey}
+use Rattle.document.specs.Schema.{pieces, numbersOf, formedBy, outsideOf, judge}
+use Rattle.document.specs.Reader.{readLine, readRows, readParagraphs, Answer, Refused, Good, readOf, sameKey}
 use Rattle.document.specs.Editions.{entriesOf, document}
 
 -- the sheet of document 01, with other values in some places and with other lines from `section` on
@@ -104,12 +103,3 @@ right (c ∷ cs) = sameKey (heard (readOf document (c .text))) (c .number ∷ c 
 pub edges : right cases ≡ true
 unfolding entriesOf readOf readParagraphs readRows readLine judge formedBy upTo begins pieces numbersOf numberWithin unsigned digitsRead outsideOf sum
 edges = refl
-
--- the text of the firing that is read is the text
-abbrev again : Answer → List ℕ
-again (Refused r n) = []
-again (Good s) = textOf document s
-
-pub text-again : again (readOf document (section whole)) ≡ section whole
-unfolding entriesOf readOf readParagraphs readRows readLine judge formedBy upTo begins pieces numbersOf numberWithin unsigned digitsRead outsideOf sum textOf sheetText rowsText lineText bodyText joined decimal digits digitsIn
-text-again = refl

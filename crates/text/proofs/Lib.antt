@@ -2,4 +2,3 @@ pub mod Scanning
 pub mod Decimal
 pub mod Reading
 pub mod Signed
-pub mod Marked
