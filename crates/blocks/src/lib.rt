@@ -1,6 +1,6 @@
 // The blocks of stages, setters and parts: a line's quantities, the line, the count line and its rows.
-pub mod parts;
-pub mod setters;
+mod parts;
+mod setters;
 pub mod stages;
 
 ghost use Rattle.due.specs.Place.{Ready};

@@ -36,7 +36,7 @@ pub struct PartCounted {
 }
 
 // The line `parts`.
-pub fn part_count(s: &[u8], p: Place) -> PartCounted
+fn part_count(s: &[u8], p: Place) -> PartCounted
     requires { ⌜ Ready (now s) p ⌝ }
     ensures { λ r. ⌜ CountAfter (now (s .entry)) p (countLine (bytes "parts") 0 32) (r .place) (r .count .0) 32 ⌝ }
 {
@@ -56,7 +56,7 @@ pub struct PartTaken {
 }
 
 // A part of the kiln body from the five numbers of its line.
-pub fn part_of(v: [Number; 13]) -> PartTaken
+fn part_of(v: [Number; 13]) -> PartTaken
     ensures { λ r. ⌜ Taken (partLine .fields) (from 0 5 v) (r .fault) (λ zs. part (r .part) ≡ partOf (plain zs)) ⌝ }
 {
     let n0 = v[0];
@@ -92,7 +92,7 @@ pub struct PartLine {
 }
 
 // One line `part`.
-pub fn part_line(s: &[u8], p: Place) -> PartLine
+fn part_line(s: &[u8], p: Place) -> PartLine
     requires { ⌜ Ready (now s) p ⌝ }
     ensures { λ r. ⌜ After (now (s .entry)) p (readLine partLine (material-rule 1 [])) (r .place) (λ row. part (r .part) ≡ partOf row) ⌝ }
 {
@@ -113,7 +113,7 @@ pub struct PartRows {
 }
 
 // k lines `part`.
-pub fn part_rows(s: &[u8], start: Place, k: usize) -> PartRows
+fn part_rows(s: &[u8], start: Place, k: usize) -> PartRows
     requires { ⌜ k ≤ 32 ⌝ }
     requires { ⌜ Ready (now s) start ⌝ }
     ensures { λ r. ⌜ ((seen : Sheet) → After (now (s .entry)) start (readRows k partLine (material-rule 1) seen []) (r .place)

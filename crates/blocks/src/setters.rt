@@ -36,7 +36,7 @@ pub struct SetterCounted {
 }
 
 // The line `setters`.
-pub fn setter_count(s: &[u8], p: Place) -> SetterCounted
+fn setter_count(s: &[u8], p: Place) -> SetterCounted
     requires { ⌜ Ready (now s) p ⌝ }
     ensures { λ r. ⌜ CountAfter (now (s .entry)) p (countLine (bytes "setters") 0 32) (r .place) (r .count .0) 32 ⌝ }
 {
@@ -56,7 +56,7 @@ pub struct SetterTaken {
 }
 
 // A setter from the four numbers of its line.
-pub fn setter_of(v: [Number; 13]) -> SetterTaken
+fn setter_of(v: [Number; 13]) -> SetterTaken
     ensures { λ r. ⌜ Taken (setterLine .fields) (from 0 4 v) (r .fault) (λ zs. setter (r .setter) ≡ setterOf (plain zs)) ⌝ }
 {
     let n0 = v[0];
@@ -84,7 +84,7 @@ pub struct SetterLine {
 }
 
 // One line `setter`.
-pub fn setter_line(s: &[u8], p: Place) -> SetterLine
+fn setter_line(s: &[u8], p: Place) -> SetterLine
     requires { ⌜ Ready (now s) p ⌝ }
     ensures { λ r. ⌜ After (now (s .entry)) p (readLine setterLine (material-rule 2 [])) (r .place) (λ row. setter (r .setter) ≡ setterOf row) ⌝ }
 {
@@ -105,7 +105,7 @@ pub struct SetterRows {
 }
 
 // k lines `setter`.
-pub fn setter_rows(s: &[u8], start: Place, k: usize) -> SetterRows
+fn setter_rows(s: &[u8], start: Place, k: usize) -> SetterRows
     requires { ⌜ k ≤ 32 ⌝ }
     requires { ⌜ Ready (now s) start ⌝ }
     ensures { λ r. ⌜ ((seen : Sheet) → After (now (s .entry)) start (readRows k setterLine (material-rule 2) seen []) (r .place)

@@ -34,7 +34,7 @@ pub struct StageCounted {
 }
 
 // The line `stages`.
-pub fn stage_count(s: &[u8], p: Place) -> StageCounted
+fn stage_count(s: &[u8], p: Place) -> StageCounted
     requires { ⌜ Ready (now s) p ⌝ }
     ensures { λ r. ⌜ CountAfter (now (s .entry)) p (countLine (bytes "stages") 1 12) (r .place) (r .count .0) 12 ⌝ }
 {
@@ -54,7 +54,7 @@ pub struct StageTaken {
 }
 
 // A stage from the five numbers of its line.
-pub fn stage_of(v: [Number; 13]) -> StageTaken
+fn stage_of(v: [Number; 13]) -> StageTaken
     ensures { λ r. ⌜ Taken (stageLine .fields) (from 0 5 v) (r .fault) (λ zs. stage (r .stage) ≡ stageOf (plain zs)) ⌝ }
 {
     let n0 = v[0];
@@ -90,7 +90,7 @@ pub struct StageLine {
 }
 
 // One line `stage`.
-pub fn stage_line(s: &[u8], p: Place) -> StageLine
+fn stage_line(s: &[u8], p: Place) -> StageLine
     requires { ⌜ Ready (now s) p ⌝ }
     ensures { λ r. ⌜ After (now (s .entry)) p (readLine stageLine (λ row. none)) (r .place) (λ row. stage (r .stage) ≡ stageOf row) ⌝ }
 {
@@ -109,7 +109,7 @@ pub struct StageRows {
 }
 
 // k lines `stage`.
-pub fn stage_rows(s: &[u8], start: Place, k: usize) -> StageRows
+fn stage_rows(s: &[u8], start: Place, k: usize) -> StageRows
     requires { ⌜ k ≤ 12 ⌝ }
     requires { ⌜ Ready (now s) start ⌝ }
     ensures { λ r. ⌜ ((seen : Sheet) → After (now (s .entry)) start (readRows k stageLine free seen []) (r .place)

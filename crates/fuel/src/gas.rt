@@ -27,7 +27,7 @@ pub struct GasTaken {
 }
 
 // The gas from the thirteen shares of its line.
-pub fn gas_of(v: [Number; 13]) -> GasTaken
+fn gas_of(v: [Number; 13]) -> GasTaken
     ensures { λ r. ⌜ Taken (gasLine .fields) (from 0 13 v) (r .fault) (λ zs. shares (r .gas) ≡ zs) ⌝ }
 {
     let mut gas = [Share(0); 13];

@@ -1,5 +1,5 @@
 // The paragraph of the fuel: the lines `fuel` and `gas`.
-pub mod gas;
+mod gas;
 
 ghost use mathlib.Core.Path.{_≡_};
 ghost use mathlib.Core.Option.{none};
@@ -29,7 +29,7 @@ pub struct FuelTaken {
 }
 
 // The fuel from the two numbers of its line.
-pub fn fuel_of(v: [Number; 13]) -> FuelTaken
+fn fuel_of(v: [Number; 13]) -> FuelTaken
     ensures { λ r. ⌜ Taken (fuelLine .fields) (from 0 2 v) (r .fault) (λ zs. fuel (r .fuel) ≡ fuelOf (plain zs)) ⌝ }
 {
     let n0 = v[0];
@@ -53,7 +53,7 @@ pub struct FuelLine {
 }
 
 // One line `fuel`.
-pub fn fuel_line(s: &[u8], p: Place) -> FuelLine
+fn fuel_line(s: &[u8], p: Place) -> FuelLine
     requires { ⌜ Ready (now s) p ⌝ }
     ensures { λ r. ⌜ After (now (s .entry)) p (readLine fuelLine (λ row. none)) (r .place) (λ row. fuel (r .fuel) ≡ fuelOf row) ⌝ }
 {

@@ -36,7 +36,7 @@ pub struct MoistureLine {
 }
 
 // The line `air`.
-pub fn moisture_line(s: &[u8], p: Place) -> MoistureLine
+fn moisture_line(s: &[u8], p: Place) -> MoistureLine
     requires { ⌜ Ready (now s) p ⌝ }
     ensures { λ r. ⌜ After (now (s .entry)) p (readLine airLine (λ row. none)) (r .place) (λ row. r .moisture .0 ≡ at row 0) ⌝ }
 {
@@ -56,7 +56,7 @@ pub struct WareTaken {
 }
 
 // The ware from the five numbers of its line.
-pub fn ware_of(v: [Number; 13]) -> WareTaken
+fn ware_of(v: [Number; 13]) -> WareTaken
     ensures { λ r. ⌜ Taken (wareLine .fields) (from 0 5 v) (r .fault) (λ zs. ware (r .ware) ≡ wareOf (plain zs)) ⌝ }
 {
     let n0 = v[0];
@@ -92,7 +92,7 @@ pub struct WareLine {
 }
 
 // One line `ware`.
-pub fn ware_line(s: &[u8], p: Place) -> WareLine
+fn ware_line(s: &[u8], p: Place) -> WareLine
     requires { ⌜ Ready (now s) p ⌝ }
     ensures { λ r. ⌜ After (now (s .entry)) p (readLine wareLine (material-rule 3 [])) (r .place) (λ row. ware (r .ware) ≡ wareOf row) ⌝ }
 {
@@ -113,7 +113,7 @@ pub struct WaterTaken {
 }
 
 // The waters from the three numbers of their line.
-pub fn water_of(v: [Number; 13]) -> WaterTaken
+fn water_of(v: [Number; 13]) -> WaterTaken
     ensures { λ r. ⌜ Taken (waterLine .fields) (from 0 3 v) (r .fault) (λ zs. water (r .water) ≡ waterOf (plain zs)) ⌝ }
 {
     let n0 = v[0];
@@ -141,7 +141,7 @@ pub struct WaterLine {
 }
 
 // One line `water`.
-pub fn water_line(s: &[u8], p: Place) -> WaterLine
+fn water_line(s: &[u8], p: Place) -> WaterLine
     requires { ⌜ Ready (now s) p ⌝ }
     ensures { λ r. ⌜ After (now (s .entry)) p (readLine waterLine (λ row. none)) (r .place) (λ row. water (r .water) ≡ waterOf row) ⌝ }
 {
@@ -160,7 +160,7 @@ pub struct ClayLine {
 }
 
 // The line `clay`.
-pub fn clay_line(s: &[u8], p: Place) -> ClayLine
+fn clay_line(s: &[u8], p: Place) -> ClayLine
     requires { ⌜ Ready (now s) p ⌝ }
     ensures { λ r. ⌜ After (now (s .entry)) p (readLine clayLine (λ row. none)) (r .place) (λ row. r .clay .0 ≡ at row 0) ⌝ }
 {

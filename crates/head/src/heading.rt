@@ -21,7 +21,7 @@ pub struct FiringLine {
 }
 
 // The line `firing`.
-pub fn firing_line(s: &[u8], p: Place) -> FiringLine
+fn firing_line(s: &[u8], p: Place) -> FiringLine
     requires { ⌜ Ready (now s) p ⌝ }
     ensures { λ r. ⌜ After (now (s .entry)) p (readLine firingLine (λ row. none)) (r .place) (λ row. r .firing .0 ≡ at row 0) ⌝ }
 {
@@ -41,7 +41,7 @@ pub struct ProductLine {
 }
 
 // The line `product`.
-pub fn product_line(s: &[u8], p: Place) -> ProductLine
+fn product_line(s: &[u8], p: Place) -> ProductLine
     requires { ⌜ Ready (now s) p ⌝ }
     ensures { λ r. ⌜ After (now (s .entry)) p (readLine productLine (λ row. none)) (r .place) (λ row. r .product .0 ≡ at row 0) ⌝ }
 {
@@ -61,7 +61,7 @@ pub struct AmbientLine {
 }
 
 // The line `ambient`.
-pub fn ambient_line(s: &[u8], p: Place) -> AmbientLine
+fn ambient_line(s: &[u8], p: Place) -> AmbientLine
     requires { ⌜ Ready (now s) p ⌝ }
     ensures { λ r. ⌜ After (now (s .entry)) p (readLine ambientLine (λ row. none)) (r .place) (λ row. r .ambient .0 ≡ at row 0) ⌝ }
 {

@@ -1,12 +1,12 @@
 // From any byte string: the sheet that it is the text of, or the refusal and its line.
-pub mod all;
+mod all;
 mod ends;
 mod whole;
 
-use crate::all::Lines;
 use crate::all::all_lines;
 use crate::whole::opening;
 use crate::whole::verdict;
+pub use all::Lines;
 pub use whole::Outcome;
 ghost use Rattle.document.specs.Editions.{document};
 ghost use Rattle.document.specs.Reader.{readOf};

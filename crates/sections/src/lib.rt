@@ -32,7 +32,7 @@ pub struct SectionCounted {
 }
 
 // The line `sections`.
-pub fn section_count(s: &[u8], p: Place) -> SectionCounted
+fn section_count(s: &[u8], p: Place) -> SectionCounted
     requires { ⌜ Ready (now s) p ⌝ }
     ensures { λ r. ⌜ CountAfter (now (s .entry)) p (countLine (bytes "sections") 1 12) (r .place) (r .count .0) 12 ⌝ }
 {
@@ -52,7 +52,7 @@ pub struct SectionTaken {
 }
 
 // A section from the three numbers of its line.
-pub fn section_of(v: [Number; 13]) -> SectionTaken
+fn section_of(v: [Number; 13]) -> SectionTaken
     ensures { λ r. ⌜ Taken (sectionLine .fields) (from 0 3 v) (r .fault) (λ zs. section (r .section) ≡ sectionOf (plain zs)) ⌝ }
 {
     let n0 = v[0];
@@ -80,7 +80,7 @@ pub struct SectionLine {
 }
 
 // One line `section`.
-pub fn section_line(s: &[u8], p: Place) -> SectionLine
+fn section_line(s: &[u8], p: Place) -> SectionLine
     requires { ⌜ Ready (now s) p ⌝ }
     ensures { λ r. ⌜ After (now (s .entry)) p (readLine sectionLine (λ row. none)) (r .place) (λ row. section (r .section) ≡ sectionOf row) ⌝ }
 {
@@ -143,7 +143,7 @@ pub struct SectionRows {
 }
 
 // k lines `section`.
-pub fn section_rows(s: &[u8], start: Place, k: usize) -> SectionRows
+fn section_rows(s: &[u8], start: Place, k: usize) -> SectionRows
     requires { ⌜ k ≤ 12 ⌝ }
     requires { ⌜ Ready (now s) start ⌝ }
     ensures { λ r. ⌜ SectionsAfter (now (s .entry)) start k (r .place) (r .lines) ⌝ }

@@ -56,7 +56,7 @@ pub struct WallTaken {
 }
 
 // A wall reading from the four numbers of its line.
-pub fn wall_of(v: [Number; 13]) -> WallTaken
+fn wall_of(v: [Number; 13]) -> WallTaken
     ensures { λ r. ⌜ Taken (wallLine .fields) (from 0 4 v) (r .fault) (λ zs. wall (r .wall) ≡ wallOf (plain zs)) ⌝ }
 {
     let n0 = v[0];

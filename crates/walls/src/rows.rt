@@ -85,7 +85,7 @@ pub struct WallRows {
 }
 
 // n lines `wall`, laid into the cells of their section and stage.
-pub fn wall_rows(
+fn wall_rows(
     s: &[u8],
     start: Place,
     n: usize,

@@ -58,11 +58,11 @@ returns c =
     λ f k. (
       c .before .q1 .ensures f (field k (λ g. totalGas (g .stages)) ∙ sym gas) (field k (λ g. g .fuel .heating)),
       rw (
-          field k (λ g. totalGas (g .stages)) ∙ sym gas,
-          field k (λ g. g .gas),
-          field k (λ g. g .fuel .temperature) ∙ sym (known .before .degrees .ensures),
-          field k (λ g. g .ambient) ∙ sym (known .degrees2 .ensures),
-          ← warmth .ensures .heat (known .before .degrees .result .0),
+        field k (λ g. totalGas (g .stages)) ∙ sym gas,
+        field k (λ g. g .gas),
+        field k (λ g. g .fuel .temperature) ∙ sym (known .before .degrees .ensures),
+        field k (λ g. g .ambient) ∙ sym (known .degrees2 .ensures),
+        ← warmth .ensures .heat (known .before .degrees .result .0),
       ) (c .q2 .ensures),
     )
 
