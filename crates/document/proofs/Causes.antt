@@ -10,17 +10,20 @@ use lib.ListN.{length, drop, getD}
 use lib.Seq.{append-snoc}
 use lib.IntN.{pos, natAbs}
 use Rattle.sheet.specs.declared.Refusal.{Refusal}
-use Rattle.sheet.specs.Refusals.{number}
-use Rattle.sheet.specs.Shown.{same}
 use Rattle.document.specs.Schema.{on, Line, Row, plain, at, lineText, Judged, refused, values, judge}
-use Rattle.document.specs.Reader.{Filled, Sheet, Rule, Paragraph, one, many, to, countLine, filled, rowsText, paragraphText, behind, soundParagraph, soundParagraphs, Read, stopped, got, andThen, _>>=_, return, judged, readLine, readRows, readParagraph, readParagraphs, readLines, RowsKeep, ParagraphKeeps}
+use Rattle.document.specs.Reader.{Filled, Sheet, Rule, Paragraph, one, many, to, countLine, filled, rowsText, paragraphText, behind, soundParagraph, soundParagraphs, Read, stopped, got, andThen, _>>=_, return, judged, readLine, readRows, readParagraph, readParagraphs, readLines, RowsKeep}
 use Rattle.document.specs.Editions.{document}
+use Rattle.document.specs.Rows.{editionIn}
+use Rattle.document.specs.Rules.{Every}
 use Rattle.document.specs.Lawful.{In}
+use Rattle.document.specs.GoodLines.{GoodParagraph}
 use Rattle.document.specs.Order.{DueLine, InParagraph, InParagraphs, Due}
 use Rattle.document.proofs.Cases.{clash, both}
 use Rattle.document.proofs.Blocks.{followed, line-got, count-row, paragraph-text, paragraph-got}
 use Rattle.document.proofs.Fields.{field-in}
 use Rattle.document.proofs.Editions.{document-sound}
+use Rattle.document.proofs.KeyRules.{ruleFor}
+use Rattle.document.proofs.GoodLines.{ByKey, first-by-key, lines-by-key, rows-good, paragraph-good}
 use Rattle.document.proofs.Stopping.{Stops}
 
 -- A LINE is left behind by one, and where it stops the reader it is the line itself
@@ -108,10 +111,10 @@ pub record StopsAt (Here : DueLine → Type 0) (r : Refusal) (m : ℕ) : Type 0 
   pub stops : Stops r place
   pub line : m ≡ place .number
 
-paragraph-stopped : (p : Paragraph) (seen : Sheet) (n m : ℕ) (text : List ℕ) (r : Refusal) → readParagraph p seen n text ≡ stopped r m
+paragraph-stopped : (p : Paragraph) (seen : Sheet) (n m : ℕ) (text : List ℕ) (r : Refusal) → ByKey p → readParagraph p seen n text ≡ stopped r m
     → StopsAt (InParagraph p seen n text) r m
 unfolding readRows
-paragraph-stopped (one l rule) seen n m text r e = here (readLine l due n text) refl e
+paragraph-stopped (one l rule) seen n m text r known e = here (readLine l due n text) refl e
   where
     due : Row → Option Refusal
     due = rule (seen ++ filled l [])
@@ -122,9 +125,11 @@ paragraph-stopped (one l rule) seen n m text r e = here (readLine l due n text) 
     here (stopped y j) q e =
         let f : readLine l due n text ≡ stopped r m = q ∙ cc in
         let same = line-stays l due n m text r f in
-        record { place = record { number = n; line = l; rule = due; rest = text }; due = refl; stops = f ∙ ap (stopped r) same; line = same }
+        let above = seen ++ filled l [] in
+        let keyed = subst (λ (x : Rule). readLine l (x above) n text ≡ stopped r m) known f in
+        record { place = record { number = n; line = l; above = above; rest = text }; due = refl; stops = keyed ∙ ap (stopped r) same; line = same }
     here (got row j rest) q e = clash cc
-paragraph-stopped (many key a b l rule) seen n m text r e = here (readLine (countLine key a b) (λ row. none) n text) refl e
+paragraph-stopped (many key a b l rule) seen n m text r known e = here (readLine (countLine key a b) (λ row. none) n text) refl e
   where
     k : Row → ℕ
     k count = natAbs (getD (count .numbers) 0 (pos 0))
@@ -138,21 +143,22 @@ paragraph-stopped (many key a b l rule) seen n m text r e = here (readLine (coun
         let first : at row 0 ≡ pos (k row) = ap (λ (y : Row). at y 0) is in
         let z : j + length (x .rows) ≡ suc n + length (x .rows) = omega arith in
         let same : m ≡ suc n + length (x .rows) = x .line ∙ z in
-        let due : Row → Option Refusal = rule (seen ++ filled l (x .rows)) in
+        let above = seen ++ filled l (x .rows) in
+        let keyed = subst (λ (y : Rule). readLine l (y above) (j + length (x .rows)) (x .left) ≡ stopped r m) (known .0) (x .stops) in
         record {
-          place = record { number = suc n + length (x .rows); line = l; rule = due; rest = x .left };
+          place = record { number = suc n + length (x .rows); line = l; above = above; rest = x .left };
           due = inr (record {
             count = k row;
             counted = subst (In (to a b)) first (field-in (countLine key a b) row (c .inRange) 0);
             rows = x .rows;
             fewer = x .fewer;
-            good = x .kept;
+            good = rows-good l rule (known .0) seen (x .rows) .to (x .kept);
             whole = c .whole
                 ∙ ap (λ (y : Row). lineText (countLine key a b) y ++ rest) is
                 ∙ ap (λ (y : List ℕ). lineText (countLine key a b) (plain (pos (k row) ∷ [])) ++ y) (x .whole);
             place = refl;
           });
-          stops = subst (λ (i : ℕ). readLine l due i (x .left) ≡ stopped r m) z (x .stops) ∙ ap (stopped r) same;
+          stops = subst (λ (i : ℕ). readLine l (ruleFor (l .key) above) i (x .left) ≡ stopped r m) z keyed ∙ ap (stopped r) same;
           line = same;
         }
 
@@ -166,10 +172,11 @@ paragraph-stopped (many key a b l rule) seen n m text r e = here (readLine (coun
     here (stopped y j) q e =
         let f : readLine (countLine key a b) (λ row. none) n text ≡ stopped r m = q ∙ cc in
         let same = line-stays (countLine key a b) (λ row. none) n m text r f in
+        let keyed = subst (λ (x : Rule). readLine (countLine key a b) (x seen) n text ≡ stopped r m) (known .1) f in
         record {
-          place = record { number = n; line = countLine key a b; rule = λ row. none; rest = text };
+          place = record { number = n; line = countLine key a b; above = seen; rest = text };
           due = inl refl;
-          stops = f ∙ ap (stopped r) same;
+          stops = keyed ∙ ap (stopped r) same;
           line = same;
         }
     here (got row j rest) q e = block row j rest q (rows-stopped l rule seen r (k row) [] j m rest (rows-end (readRows (k row) l rule seen [] j rest) e))
@@ -177,27 +184,27 @@ paragraph-stopped (many key a b l rule) seen n m text r e = here (readLine (coun
 -- BEHIND GOOD PARAGRAPHS
 record Passed (p : Paragraph) (seen sheet : Sheet) (n m : ℕ) (text rest : List ℕ) : Type 0 where
   said : Filled
-  good : ParagraphKeeps p seen said
+  good : GoodParagraph p seen said
   whole : text ≡ paragraphText p (said .rows) ++ rest
   made : sheet ≡ seen ++ (said ∷ [])
   line : m ≡ behind p (said .rows) n
 
-passed : (p : Paragraph) (seen sheet : Sheet) (n m : ℕ) (text rest : List ℕ) → soundParagraph p ≡ true → readParagraph p seen n text ≡ got sheet m rest
-    → Passed p seen sheet n m text rest
-passed p seen sheet n m text rest s e =
+passed : (p : Paragraph) (seen sheet : Sheet) (n m : ℕ) (text rest : List ℕ) → ByKey p → soundParagraph p ≡ true
+    → readParagraph p seen n text ≡ got sheet m rest → Passed p seen sheet n m text rest
+passed p seen sheet n m text rest known s e =
     let a = paragraph-got p seen sheet n text m rest e in
     let f = a .part in
     let b = paragraph-text p seen f n rest s (a .kept) in
     let c : readParagraph p seen n text ≡ got (seen ++ (f ∷ [])) (behind p (f .rows) n) rest = ap (readParagraph p seen n) (a .whole) ∙ b in
-    record { said = f; good = a .kept; whole = a .whole; made = a .made; line = cc }
+    record { said = f; good = paragraph-good p known seen f .to (a .kept); whole = a .whole; made = a .made; line = cc }
 
-paragraphs-stopped : (ps : List Paragraph) (seen : Sheet) (n m : ℕ) (text : List ℕ) (r : Refusal) → soundParagraphs ps ≡ true
+paragraphs-stopped : (ps : List Paragraph) (seen : Sheet) (n m : ℕ) (text : List ℕ) (r : Refusal) → Every ByKey ps → soundParagraphs ps ≡ true
     → readParagraphs ps seen n text ≡ stopped r m → StopsAt (InParagraphs ps seen n text) r m
 unfolding readParagraphs
-paragraphs-stopped [] seen n m text r s e = clash cc
-paragraphs-stopped (p ∷ ps) seen n m text r s e =
+paragraphs-stopped [] seen n m text r known s e = clash cc
+paragraphs-stopped (p ∷ ps) seen n m text r known s e =
     let t = both (soundParagraph p) (soundParagraphs ps) s in
-    here (readParagraph p seen n text) refl e (t .0) (λ f rest. paragraphs-stopped ps (seen ++ (f ∷ [])) (behind p (f .rows) n) m rest r (t .1))
+    here (readParagraph p seen n text) refl e (t .0) (λ f rest. paragraphs-stopped ps (seen ++ (f ∷ [])) (behind p (f .rows) n) m rest r (known .1) (t .1))
   where
     here : (x : Read Sheet) → readParagraph p seen n text ≡ x → andThen x (λ sheet. readParagraphs ps sheet) ≡ stopped r m → soundParagraph p ≡ true
         → ((f : Filled) (rest : List ℕ) → readParagraphs ps (seen ++ (f ∷ [])) (behind p (f .rows) n) rest ≡ stopped r m
@@ -205,10 +212,10 @@ paragraphs-stopped (p ∷ ps) seen n m text r s e =
         → StopsAt (InParagraphs (p ∷ ps) seen n text) r m
     here (stopped y j) q e t rec =
         let f : readParagraph p seen n text ≡ stopped r m = q ∙ cc in
-        let a = paragraph-stopped p seen n m text r f in
+        let a = paragraph-stopped p seen n m text r (known .0) f in
         record { place = a .place; due = inl (a .due); stops = a .stops; line = a .line }
     here (got sheet j rest) q e t rec =
-        let a = passed p seen sheet n j text rest t q in
+        let a = passed p seen sheet n j text rest (known .0) t q in
         let f = a .said in
         let e′ : readParagraphs ps (seen ++ (f ∷ [])) (behind p (f .rows) n) rest ≡ stopped r m = rw (← a .made, ← a .line) e in
         let b = rec f rest e′ in
@@ -226,16 +233,17 @@ lines-stopped m text r e = here (readParagraph (document .first) [] 1 text) refl
         → StopsAt (Due text) r m
     here (stopped y j) q e =
         let f : readParagraph (document .first) [] 1 text ≡ stopped r m = q ∙ cc in
-        let a = paragraph-stopped (document .first) [] 1 m text r f in
+        let a = paragraph-stopped (document .first) [] 1 m text r first-by-key f in
         record { place = a .place; due = inl (a .due); stops = a .stops; line = a .line }
     here (got sheet j rest) q e =
-        let a = passed (document .first) [] sheet 1 j text rest (document-sound .first) q in
+        let a = passed (document .first) [] sheet 1 j text rest first-by-key (document-sound .first) q in
         let f = a .said in
         let n = behind (document .first) (f .rows) 1 in
         let e′ : readParagraphs (document .below (f ∷ [])) (f ∷ []) n rest ≡ stopped r m =
         subst (λ (y : Sheet). readParagraphs (document .below y) y n rest ≡ stopped r m) (a .made)
         (subst (λ (i : ℕ). readParagraphs (document .below sheet) sheet i rest ≡ stopped r m) (a .line) e) in
-        let b = paragraphs-stopped (document .below (f ∷ [])) (f ∷ []) n m rest r (document-sound .below (f ∷ [])) e′ in
+        let known = lines-by-key (editionIn (f ∷ [])) in
+        let b = paragraphs-stopped (document .below (f ∷ [])) (f ∷ []) n m rest r known (document-sound .below (f ∷ [])) e′ in
         record {
           place = b .place;
           due = inr (record { said = f; left = rest; good = a .good; whole = a .whole; next = b .due });

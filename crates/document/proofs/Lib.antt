@@ -20,6 +20,8 @@ pub mod Document01
 pub mod Editions
 pub mod Readings
 pub mod Example
+pub mod KeyRules
+pub mod GoodLines
 pub mod Stopping
 pub mod Order
 pub mod Causes

@@ -3,34 +3,32 @@
 use Prim.Native.Nat.{ℕ, zero, suc, _+_, _≤_, _<_}
 use mathlib.Core.Path.{_≡_, refl, sym, ap, subst, _∙_}
 use mathlib.Core.List.{List, [], _∷_, _++_, append-assoc, append-nil}
-use mathlib.Core.Logic.{_⊎_, inl, inr}
-use mathlib.Core.Option.{Option, none, some}
-use mathlib.Core.Bool.{Bool, true, false, _&&_, not}
+use mathlib.Core.Logic.{inl, inr}
+use mathlib.Core.Option.{none, some}
+use mathlib.Core.Bool.{true}
 use native.Mathlib.Omega.{arith}
 use lib.ListN.{length}
 use lib.Seq.{append-snoc}
 use lib.IntN.{pos}
-use lib.Signed.{ltZ, _<ℤ_}
 use borrow.Author.Tests.{le-ltb, lt-ltb}
 use Rattle.sheet.specs.declared.Refusal.{Refusal}
-use Rattle.sheet.specs.declared.Refusal.the-variants.{TooLong, Surplus, Material, Shares, SectionTwice, NoSuchWall, ReadTwice, Missing, Colder, GasTotal}
+use Rattle.sheet.specs.declared.Refusal.the-variants.{TooLong, Surplus, Missing, GasTotal}
 use Rattle.sheet.specs.Refusals.{number}
-use Rattle.sheet.specs.Shown.{same}
 use Rattle.sheet.specs.Firing.{Stage, Section, Wall}
-use Rattle.document.specs.Schema.{Line, Row, plain, at, lineText, sound}
+use Rattle.document.specs.Schema.{Line, Row, plain, lineText, sound}
 use Rattle.document.specs.Reader.{Sheet, Rule, Paragraph, one, many, countLine, filled, paragraphText, rowsText, sheetText, textOf, behind, soundParagraph, soundParagraphs, Read, stopped, got, readLine, readRows, readParagraph, readParagraphs, readLines, RowsKeep, LinesKeep, readOf}
-use Rattle.document.specs.Tests.{alike, sumOf, weigh, airWeights, when, isListed, wallFault, wholeFault}
+use Rattle.document.specs.Tests.{wholeFault}
 use Rattle.document.specs.Editions.{document}
-use Rattle.document.specs.Rules.{Listed}
-use Rattle.document.specs.Rows.{sectionOf, editionIn, stagesIn, sectionsIn, wallAs, wallsIn}
-use Rattle.document.specs.Order.{DueLine, InParagraph, InParagraphs, Due, Looked, WallFault, elsewhere, twice, colder, RowFault, ofMaterial, ofGas, ofSection, ofWall, WholeFault, total, missing, AllGood, last, First, tooLong, unformed, outside, broken, surplus, ofAll, Hears}
-use Rattle.document.proofs.Cases.{clash, both}
-use Rattle.document.proofs.Judged.{fits-plain}
+use Rattle.document.specs.Rules.{Every}
+use Rattle.document.specs.Rows.{editionIn, stagesIn, sectionsIn, wallsIn}
+use Rattle.document.specs.Order.{DueLine, InParagraph, InParagraphs, Due, Looked, WholeFault, total, missing, AllGood, last, First, tooLong, unformed, outside, broken, surplus, ofAll, Hears}
+use Rattle.document.proofs.Cases.{both}
 use Rattle.document.proofs.Blocks.{line-text, paragraph-text, paragraphs-text}
 use Rattle.document.proofs.Sizes.{never-too-long}
-use Rattle.document.proofs.Fields.{in-ranges}
-use Rattle.document.proofs.Rules.{material-asks, gas-asks, section-asks, listed-test, unlisted-heard, unstaged-heard, twice-heard, colder-heard, total-heard, missing-heard}
+use Rattle.document.proofs.Rules.{total-heard, missing-heard}
 use Rattle.document.proofs.Editions.{document-sound}
+use Rattle.document.proofs.KeyRules.{row-heard}
+use Rattle.document.proofs.GoodLines.{ByKey, first-by-key, lines-by-key, rows-good, count-good, paragraph-good, lines-good}
 use Rattle.document.proofs.Stopping.{Stops, StopsWith, unsaid-stops, outside-stops, rule-stops}
 
 -- WHERE A LINE STOPS THE READER, reading stops: behind good rows
@@ -56,44 +54,52 @@ module _ (l : Line) (rule : Rule) (seen : Sheet) (r : Refusal) where
 numbered : (r : Refusal) {d e : DueLine} → d ≡ e → _≡_ {A = Read Sheet} (stopped r (e .number)) (stopped r (d .number))
 numbered r e = ap (λ (y : DueLine). stopped r (y .number)) (sym e)
 
-paragraph-stop : (p : Paragraph) (seen : Sheet) (n : ℕ) (s : List ℕ) (d : DueLine) (r : Refusal) → soundParagraph p ≡ true
+paragraph-stop : (p : Paragraph) (seen : Sheet) (n : ℕ) (s : List ℕ) (d : DueLine) (r : Refusal) → ByKey p → soundParagraph p ≡ true
     → InParagraph p seen n s d → Stops r d → readParagraph p seen n s ≡ stopped r (d .number)
 unfolding readRows
-paragraph-stop (one l rule) seen n s d r k e h =
-    let x : Stops r (record { number = n; line = l; rule = rule (seen ++ filled l []); rest = s }) = subst (Stops r) e h in
+paragraph-stop (one l rule) seen n s d r known k e h =
+    let above = seen ++ filled l [] in
+    let keyed : Stops r (record { number = n; line = l; above = above; rest = s }) = subst (Stops r) e h in
+    let x = subst (λ (y : Rule). readLine l (y above) n s ≡ stopped r n) (sym known) keyed in
     rw x (numbered r e)
-paragraph-stop (many key a b l rule) seen n s d r k (inl e) h =
-    let x : Stops r (record { number = n; line = countLine key a b; rule = λ row. none; rest = s }) = subst (Stops r) e h in
+paragraph-stop (many key a b l rule) seen n s d r known k (inl e) h =
+    let keyed : Stops r (record { number = n; line = countLine key a b; above = seen; rest = s }) = subst (Stops r) e h in
+    let x = subst (λ (y : Rule). readLine (countLine key a b) (y seen) n s ≡ stopped r n) (sym (known .1)) keyed in
     rw x (numbered r e)
-paragraph-stop (many key a b l rule) seen n s d r k (inr i) h =
+paragraph-stop (many key a b l rule) seen n s d r known k (inr i) h =
     let t = both (sound (countLine key a b)) (sound l) k in
-    let line = countLine key a b in
-    let fit = fits-plain line (pos (i .count) ∷ []) (in-ranges (line .fields) (pos (i .count) ∷ []) (i .counted, tt)) in
-    let c = line-text line (λ row. none) (plain (pos (i .count) ∷ [])) n (rowsText l (i .rows) ++ d .rest) (t .0) fit refl in
-    let x : Stops r (record { number = suc n + length (i .rows); line = l; rule = rule (seen ++ filled l (i .rows)); rest = d .rest }) =
-    subst (Stops r) (i .place) h in
-    let y = rows-stop l rule seen r (t .1) (i .rows) [] (i .count) (suc n) (suc n + length (i .rows)) (d .rest) (i .fewer) (i .good) x in
+    let fit = count-good key a b (i .count) .from (i .counted) in
+    let c = line-text (countLine key a b) (λ row. none) (plain (pos (i .count) ∷ [])) n (rowsText l (i .rows) ++ d .rest) (t .0) fit refl in
+    let above = seen ++ filled l (i .rows) in
+    let m = suc n + length (i .rows) in
+    let keyed : Stops r (record { number = m; line = l; above = above; rest = d .rest }) = subst (Stops r) (i .place) h in
+    let x = subst (λ (y : Rule). readLine l (y above) m (d .rest) ≡ stopped r m) (sym (known .0)) keyed in
+    let kept = rows-good l rule (known .0) seen (i .rows) .from (i .good) in
+    let y = rows-stop l rule seen r (t .1) (i .rows) [] (i .count) (suc n) m (d .rest) (i .fewer) kept x in
     rw (i .whole, c, y) (numbered r (i .place))
 
 -- behind good paragraphs
-paragraphs-stop : (ps : List Paragraph) (seen : Sheet) (n : ℕ) (s : List ℕ) (d : DueLine) (r : Refusal) → soundParagraphs ps ≡ true
+paragraphs-stop : (ps : List Paragraph) (seen : Sheet) (n : ℕ) (s : List ℕ) (d : DueLine) (r : Refusal) → Every ByKey ps → soundParagraphs ps ≡ true
     → InParagraphs ps seen n s d → Stops r d → readParagraphs ps seen n s ≡ stopped r (d .number)
 unfolding readParagraphs
-paragraphs-stop [] seen n s d r k i h = absurd i
-paragraphs-stop (p ∷ ps) seen n s d r k (inl i) h = rw (paragraph-stop p seen n s d r (both (soundParagraph p) (soundParagraphs ps) k .0) i h)
-paragraphs-stop (p ∷ ps) seen n s d r k (inr b) h =
+paragraphs-stop [] seen n s d r known k i h = absurd i
+paragraphs-stop (p ∷ ps) seen n s d r known k (inl i) h =
+    rw (paragraph-stop p seen n s d r (known .0) (both (soundParagraph p) (soundParagraphs ps) k .0) i h)
+paragraphs-stop (p ∷ ps) seen n s d r known k (inr b) h =
     let t = both (soundParagraph p) (soundParagraphs ps) k in
     let f = b .said in
-    let a = paragraph-text p seen f n (b .left) (t .0) (b .good) in
-    rw (b .whole, a) (paragraphs-stop ps (seen ++ (f ∷ [])) (behind p (f .rows) n) (b .left) d r (t .1) (b .next) h)
+    let a = paragraph-text p seen f n (b .left) (t .0) (paragraph-good p (known .0) seen f .from (b .good)) in
+    rw (b .whole, a) (paragraphs-stop ps (seen ++ (f ∷ [])) (behind p (f .rows) n) (b .left) d r (known .1) (t .1) (b .next) h)
 
 lines-stop : (s : List ℕ) (d : DueLine) (r : Refusal) → Due s d → Stops r d → readLines document 1 s ≡ stopped r (d .number)
-lines-stop s d r (inl i) h = rw (paragraph-stop (document .first) [] 1 s d r (document-sound .first) i h)
+lines-stop s d r (inl i) h = rw (paragraph-stop (document .first) [] 1 s d r first-by-key (document-sound .first) i h)
 lines-stop s d r (inr b) h =
     let f = b .said in
-    let a = paragraph-text (document .first) [] f 1 (b .left) (document-sound .first) (b .good) in
+    let kept = paragraph-good (document .first) first-by-key [] f .from (b .good) in
+    let a = paragraph-text (document .first) [] f 1 (b .left) (document-sound .first) kept in
     let below = document .below (f ∷ []) in
-    rw (b .whole, a) (paragraphs-stop below (f ∷ []) (behind (document .first) (f .rows) 1) (b .left) d r (document-sound .below (f ∷ [])) (b .next) h)
+    let known = lines-by-key (editionIn (f ∷ [])) in
+    rw (b .whole, a) (paragraphs-stop below (f ∷ []) (behind (document .first) (f .rows) 1) (b .left) d r known (document-sound .below (f ∷ [])) (b .next) h)
 
 -- and this is heard
 hears : {s : List ℕ} {r : Refusal} (a : Looked s) → Stops r (a .at) → Hears s (number r) (a .at .number)
@@ -123,29 +129,7 @@ due-sound s d (inr b) =
     let f = b .said in
     paragraphs-sound (document .below (f ∷ [])) (f ∷ []) (behind (document .first) (f .rows) 1) (b .left) d (document-sound .below (f ∷ [])) (b .next)
 
--- A RULE THAT IS BROKEN says so
-when-some : (t : Bool) (r : Refusal) → ¬ (when t r ≡ none) → when t r ≡ some r
-when-some true r n = refl
-when-some false r n = absurd (n refl)
-
-six-heard : (stages : List Stage) (sections : List Section) (above : List Wall) (w : Wall)
-    → (¬ Listed sections w) ⊎ (pos (length stages) <ℤ w .stage) → wallFault stages sections above w ≡ some NoSuchWall
-six-heard stages sections above w (inl n) = unlisted-heard stages sections above w n
-six-heard stages sections above w (inr b) = here (isListed sections (w .section)) refl
-  where
-    here : (t : Bool) → isListed sections (w .section) ≡ t → wallFault stages sections above w ≡ some NoSuchWall
-    here true e = unstaged-heard stages sections above w (listed-test sections (w .section) .yes e) b
-    here false e = unlisted-heard stages sections above w (λ l. let z = listed-test sections (w .section) .back l in clash cc)
-
-by : {f g : Row → Option Refusal} → f ≡ g → (row : Row) → f row ≡ g row
-by e row = ap (λ (x : Row → Option Refusal). x row) e
-
-wall-stops : (stages : List Stage) (sections : List Section) (above : List Wall) (w : Wall) (k : ℕ) → WallFault stages sections above w k
-    → (r : Refusal) × (wallFault stages sections above w ≡ some r) × (number r ≡ k)
-wall-stops stages sections above w k (elsewhere e n) = (NoSuchWall, six-heard stages sections above w n, sym e)
-wall-stops stages sections above w k (twice e l t r) = (ReadTwice, twice-heard stages sections above w l t r, sym e)
-wall-stops stages sections above w k (colder e l t n c) = (Colder, colder-heard stages sections above w l t n c, sym e)
-
+-- WHAT IS WRONG WITH THE WHOLE is said
 whole-stops : (stages : List Stage) (sections : List Section) (walls : List Wall) (k : ℕ) → WholeFault stages sections walls k
     → (r : Refusal) × (wholeFault stages sections walls ≡ some r) × (number r ≡ k)
 whole-stops stages sections walls k (total e n) = (GasTotal, total-heard stages sections walls n, sym e)
@@ -167,32 +151,17 @@ good-read (f ∷ fs) left k =
 surplus-heard : (s : List ℕ) → length s ≤ 16384 → (sheet : Sheet) (b : ℕ) (left : List ℕ) → AllGood s sheet (b ∷ left) → Hears s 2 (last sheet)
 unfolding readOf
 surplus-heard s short sheet b left g =
-    let e : readLines document 1 s ≡ got sheet (last sheet) (b ∷ left) = rw (g .whole) (good-read sheet (b ∷ left) (g .good)) in
+    let e : readLines document 1 s ≡ got sheet (last sheet) (b ∷ left) = rw (g .whole) (good-read sheet (b ∷ left) (lines-good sheet .from (g .good))) in
     record { refusal = Surplus; is = rw (le-ltb 16384 (length s) short, e) refl; numbered = refl }
 
 whole-heard : (s : List ℕ) (sheet : Sheet) (r : Refusal) → AllGood s sheet [] → document .whole sheet ≡ some r → Hears s (number r) 0
 unfolding readOf
 whole-heard s sheet r g q =
-    let e : readLines document 1 s ≡ got sheet (last sheet) [] = rw (g .whole) (good-read sheet [] (g .good)) in
+    let kept = lines-good sheet .from (g .good) in
+    let e : readLines document 1 s ≡ got sheet (last sheet) [] = rw (g .whole) (good-read sheet [] kept) in
     let is : s ≡ textOf document sheet = g .whole ∙ append-nil (textOf document sheet) in
-    let short : length s ≤ 16384 = rw is (never-too-long document document-sound sheet (g .good)) in
+    let short : length s ≤ 16384 = rw is (never-too-long document document-sound sheet kept) in
     record { refusal = r; is = rw (le-ltb 16384 (length s) short, e, q) refl; numbered = refl }
-
--- A ROW THAT IS WRONG is refused by the rule that is due
-row-stops : (rule : Row → Option Refusal) (row : Row) (k : ℕ) → RowFault rule row k → (r : Refusal) × (rule row ≡ some r) × (number r ≡ k)
-row-stops rule row k (ofMaterial e i seen its n) =
-    let r = Material (i + 1) in
-    let test = alike (same (pos 0) (at row i)) (same (pos 0) (at row (i + 1))) in
-    (r, by its row ∙ when-some test r (λ q. n (material-asks i seen row .to q)), sym e)
-row-stops rule row k (ofGas e seen its n) =
-    let test = not (same (sumOf (row .numbers)) (pos 10000) && ltZ (pos 0) (weigh airWeights (row .numbers))) in
-    (Shares, by its row ∙ when-some test Shares (λ q. n (gas-asks seen row .to q)), sym e)
-row-stops rule row k (ofSection e seen its t) =
-    let test = isListed (sectionsIn seen) (sectionOf row .number) in
-    (SectionTwice, by its row ∙ when-some test SectionTwice (λ q. section-asks (sectionsIn seen) (sectionOf row) .to q t), sym e)
-row-stops rule row k (ofWall seen its f) =
-    let a = wall-stops (stagesIn seen) (sectionsIn seen) (wallsIn seen) (wallAs (editionIn seen) row) k f in
-    (a .0, by its row ∙ a .1, a .2)
 
 -- WHATEVER APPLIES FIRST IS HEARD
 as-said : {s : List ℕ} {i j m n : ℕ} → j ≡ i → n ≡ m → Hears s i m → Hears s j n
@@ -204,7 +173,7 @@ first-heard {s} (tooLong e f h) = as-said e f (record { refusal = TooLong; is = 
 first-heard (unformed e a f n) = as-said e f (with-number a (unsaid-stops (a .at) n))
 first-heard {s} (outside e a f row h n) = as-said e f (with-number a (outside-stops (a .at) (due-sound s (a .at) (a .due)) row h n))
 first-heard {s} {k} (broken a f row h fault) =
-    let x = row-stops (a .at .rule) row k fault in
+    let x = row-heard (a .at .line .key) (a .at .above) row k fault in
     as-said (sym (x .2)) f (hears a (rule-stops (a .at) (due-sound s (a .at) (a .due)) row h (x .0) (x .1)))
 first-heard {s} (surplus e short sheet b left g f) = as-said e f (surplus-heard s short sheet b left g)
 first-heard {s} {k} (ofAll f sheet g fault) =

@@ -24,10 +24,15 @@ use Rattle.document.proofs.Cases.{clash, on-none}
 use Rattle.document.proofs.Judged.{is-sound, fits-plain, judge-text, formed-values}
 use Rattle.document.proofs.Pieces.{none-outside, all-inside}
 use Rattle.document.proofs.Fields.{ranges-in, in-ranges}
+use Rattle.document.proofs.KeyRules.{ruleFor}
+
+-- THE RULE THAT IS DUE at a line: that of its key, given all that stands above it
+abbrev pub due : DueLine → Row → Option Refusal
+due d = ruleFor (d .line .key) (d .above)
 
 -- A LINE THAT STOPS THE READER
 abbrev pub Stops : Refusal → DueLine → Type 0
-Stops r d = readLine (d .line) (d .rule) (d .number) (d .rest) ≡ stopped r (d .number)
+Stops r d = readLine (d .line) (due d) (d .number) (d .rest) ≡ stopped r (d .number)
 
 pub record StopsWith (k : ℕ) (d : DueLine) : Type 0 where
   pub refusal : Refusal
@@ -134,7 +139,7 @@ outside-stops d s row h n = here (outsideOf 1 (d .line .fields) (row .numbers)) 
     here (some i) q = record { refusal = Outside i; stops = rw (says-formed d s row h, q) refl; numbered = refl }
 
 -- 4 to 9: a rule that is broken
-pub rule-stops : (d : DueLine) → sound (d .line) ≡ true → (row : Row) → SaysIn d row → (r : Refusal) → d .rule row ≡ some r → Stops r d
+pub rule-stops : (d : DueLine) → sound (d .line) ≡ true → (row : Row) → SaysIn d row → (r : Refusal) → due d row ≡ some r → Stops r d
 unfolding readLine judge
 rule-stops d s row h r e =
     let inside = none-outside 1 (d .line .fields) (row .numbers) (in-ranges (d .line .fields) (row .numbers) (h .within)) in
@@ -144,27 +149,27 @@ rule-stops d s row h r e =
 pub data Fault (d : DueLine) (r : Refusal) : Type 0 where
   unsaid : number r ≡ 2 → ((row : Row) → ¬ Says d row) → Fault d r
   beyond : number r ≡ 3 → (row : Row) → Says d row → ¬ InRanges (d .line .fields) (row .numbers) → Fault d r
-  ruledOut : (row : Row) → SaysIn d row → d .rule row ≡ some r → Fault d r
+  ruledOut : (row : Row) → SaysIn d row → due d row ≡ some r → Fault d r
 
 pub stops-fault : (d : DueLine) (r : Refusal) → sound (d .line) ≡ true → Stops r d → Fault d r
 unfolding readLine judge
 stops-fault d r s e = here (formed (d .line) (d .rest)) refl (line-two d) e
   where
-    ruled : (row : Row) → SaysIn d row → (left : List ℕ) (o : Option Refusal) → d .rule row ≡ o
+    ruled : (row : Row) → SaysIn d row → (left : List ℕ) (o : Option Refusal) → due d row ≡ o
         → on o (got row (suc (d .number)) left) (λ x. stopped x (d .number)) ≡ stopped r (d .number) → Fault d r
     ruled row h left none q e = clash cc
     ruled row h left (some x) q e = let z : r ≡ x = cc in ruledOut row h (q ∙ ap some (sym z))
 
     rangedBy : (row : Row) (size : ℕ) → Says d row → (o : Option ℕ) → outsideOf 1 (d .line .fields) (row .numbers) ≡ o
-        → judged (on o (values row size) (λ i. refused (Outside i))) (d .rule) (d .number) (d .rest) ≡ stopped r (d .number) → Fault d r
+        → judged (on o (values row size) (λ i. refused (Outside i))) (due d) (d .number) (d .rest) ≡ stopped r (d .number) → Fault d r
     rangedBy row size h (some i) q e =
         let z : r ≡ Outside i = cc in
         beyond (ap number z) row h (λ k. let p = none-outside 1 (d .line .fields) (row .numbers) (in-ranges (d .line .fields) (row .numbers) k) in clash cc)
     rangedBy row size h none q e =
         let inside = ranges-in (d .line .fields) (row .numbers) (all-inside 1 (d .line .fields) (row .numbers) (h .many) q) in
-        ruled row (record { says = h; within = inside }) (drop size (d .rest)) (d .rule row) refl e
+        ruled row (record { says = h; within = inside }) (drop size (d .rest)) (due d row) refl e
 
     here : (j : Judged) → formed (d .line) (d .rest) ≡ j → Two j
-        → judged (ranged (d .line .fields) j) (d .rule) (d .number) (d .rest) ≡ stopped r (d .number) → Fault d r
+        → judged (ranged (d .line .fields) j) (due d) (d .number) (d .rest) ≡ stopped r (d .number) → Fault d r
     here (refused x) q w e = let z : r ≡ x = cc in unsaid (ap number z ∙ w) (λ row h. let p = says-formed d s row h in clash cc)
     here (values row size) q w e = rangedBy row size (formed-says d row size q) (outsideOf 1 (d .line .fields) (row .numbers)) refl e

@@ -4,54 +4,54 @@ use Prim.Native.Nat.{ℕ, suc, _+_, _≤_, _<_}
 use mathlib.Core.Path.{_≡_}
 use mathlib.Core.List.{List, [], _∷_, _++_}
 use mathlib.Core.Logic.{_⊎_}
-use mathlib.Core.Option.{Option, none}
 use lib.ListN.{length}
 use lib.IntN.{pos, natAbs}
 use lib.Signed.{_<ℤ_}
+use Rattle.text.specs.Bytes.{bytes}
 use Rattle.sheet.specs.declared.Refusal.{Refusal}
 use Rattle.sheet.specs.Refusals.{number}
 use Rattle.sheet.specs.Firing.{Stage, Section, Wall}
 use Rattle.document.specs.Schema.{Line, Row, plain, lineText}
-use Rattle.document.specs.Reader.{Filled, Sheet, Rule, Paragraph, one, many, to, countLine, filled, paragraphText, rowsText, textOf, behind, behindAll, RowsKeep, ParagraphKeeps, LinesKeep, Refused, readOf}
-use Rattle.document.specs.Tests.{material-rule, gas-rule, section-rule, wall-rule}
+use Rattle.document.specs.Reader.{Filled, Sheet, Paragraph, one, many, to, countLine, filled, paragraphText, rowsText, textOf, behind, behindAll, Refused, readOf}
 use Rattle.document.specs.Editions.{document}
 use Rattle.document.specs.Rows.{sectionOf, editionIn, stagesIn, sectionsIn, wallAs, wallsIn}
 use Rattle.document.specs.Rules.{Some, Every, MaterialKeeps, GasKeeps, SameNumber, Listed, Staged, SameReading, AllRead, TotalKeeps}
 use Rattle.document.specs.Lawful.{In, InRanges}
+use Rattle.document.specs.GoodLines.{GoodRows, GoodParagraph, GoodLines}
 
--- A LINE THAT IS DUE: its number, its key and fields, what it must keep given all above it, and the text from it on
+-- A LINE THAT IS DUE: its number, its key and fields, all that stands above it, and the text from it on
 pub record DueLine : Type 0 where
   pub number : ℕ
   pub line : Line
-  pub rule : Row → Option Refusal
+  pub above : Sheet
   pub rest : List ℕ
 
 -- .. in a block, behind its count and behind good rows that are fewer
-pub record InBlock (key : List ℕ) (a b : ℕ) (l : Line) (rule : Rule) (seen : Sheet) (n : ℕ) (s : List ℕ) (d : DueLine) : Type 0 where
+pub record InBlock (key : List ℕ) (a b : ℕ) (l : Line) (above : Sheet) (n : ℕ) (s : List ℕ) (d : DueLine) : Type 0 where
   pub count : ℕ
   pub counted : In (to a b) (pos count)
   pub rows : List Row
   pub fewer : length rows < count
-  pub good : RowsKeep l rule seen [] rows
+  pub good : GoodRows l above [] rows
   pub whole : s ≡ lineText (countLine key a b) (plain (pos count ∷ [])) ++ (rowsText l rows ++ d .rest)
-  pub place : d ≡ record { number = suc n + length rows; line = l; rule = rule (seen ++ filled l rows); rest = d .rest }
+  pub place : d ≡ record { number = suc n + length rows; line = l; above = above ++ filled l rows; rest = d .rest }
 
 abbrev pub InParagraph : Paragraph → Sheet → ℕ → List ℕ → DueLine → Type 0
-InParagraph (one l rule) seen n s d = d ≡ record { number = n; line = l; rule = rule (seen ++ filled l []); rest = s }
-InParagraph (many key a b l rule) seen n s d =
-    (d ≡ record { number = n; line = countLine key a b; rule = λ row. none; rest = s }) ⊎ InBlock key a b l rule seen n s d
+InParagraph (one l rule) above n s d = d ≡ record { number = n; line = l; above = above ++ filled l []; rest = s }
+InParagraph (many key a b l rule) above n s d =
+    (d ≡ record { number = n; line = countLine key a b; above = above; rest = s }) ⊎ InBlock key a b l above n s d
 
 -- .. behind a paragraph that is good
-pub record Behind (p : Paragraph) (seen : Sheet) (n : ℕ) (s : List ℕ) (Next : Filled → ℕ → List ℕ → Type 0) : Type 0 where
+pub record Behind (p : Paragraph) (above : Sheet) (n : ℕ) (s : List ℕ) (Next : Filled → ℕ → List ℕ → Type 0) : Type 0 where
   pub said : Filled
   pub left : List ℕ
-  pub good : ParagraphKeeps p seen said
+  pub good : GoodParagraph p above said
   pub whole : s ≡ paragraphText p (said .rows) ++ left
   pub next : Next said (behind p (said .rows) n) left
 
 abbrev pub InParagraphs : List Paragraph → Sheet → ℕ → List ℕ → DueLine → Type 0
-InParagraphs [] seen n s d = ⊥
-InParagraphs (p ∷ ps) seen n s d = InParagraph p seen n s d ⊎ Behind p seen n s (λ f m left. InParagraphs ps (seen ++ (f ∷ [])) m left d)
+InParagraphs [] above n s d = ⊥
+InParagraphs (p ∷ ps) above n s d = InParagraph p above n s d ⊎ Behind p above n s (λ f m left. InParagraphs ps (above ++ (f ∷ [])) m left d)
 
 abbrev pub Due : List ℕ → DueLine → Type 0
 Due s d =
@@ -83,13 +83,14 @@ pub data WallFault (stages : List Stage) (sections : List Section) (above : List
   twice : k ≡ 7 → Listed sections w → Staged stages w → Some (SameReading w) above → WallFault stages sections above w k
   colder : k ≡ 9 → Listed sections w → Staged stages w → ¬ Some (SameReading w) above → w .surface <ℤ w .air → WallFault stages sections above w k
 
--- .. with a row, by the rule that is due there, given what was read above it: 4 to 9
-pub data RowFault (rule : Row → Option Refusal) (row : Row) (k : ℕ) : Type 0 where
-  ofMaterial : k ≡ 4 → (i : ℕ) (seen : Sheet) → rule ≡ material-rule i seen → ¬ MaterialKeeps i row → RowFault rule row k
-  ofGas : k ≡ 5 → (seen : Sheet) → rule ≡ gas-rule seen → ¬ GasKeeps row → RowFault rule row k
-  ofSection : k ≡ 6 → (seen : Sheet) → rule ≡ section-rule seen → Some (SameNumber (sectionOf row)) (sectionsIn seen) → RowFault rule row k
-  ofWall : (seen : Sheet) → rule ≡ wall-rule seen
-      → WallFault (stagesIn seen) (sectionsIn seen) (wallsIn seen) (wallAs (editionIn seen) row) k → RowFault rule row k
+-- .. with a row, by the rules of its key and given all that stands above it: 4 to 9
+pub data RowFault (key : List ℕ) (above : Sheet) (row : Row) (k : ℕ) : Type 0 where
+  ofWare : k ≡ 4 → key ≡ bytes "ware" → ¬ MaterialKeeps 3 row → RowFault key above row k
+  ofSetter : k ≡ 4 → key ≡ bytes "setter" → ¬ MaterialKeeps 2 row → RowFault key above row k
+  ofPart : k ≡ 4 → key ≡ bytes "part" → ¬ MaterialKeeps 1 row → RowFault key above row k
+  ofGas : k ≡ 5 → key ≡ bytes "gas" → ¬ GasKeeps row → RowFault key above row k
+  ofSection : k ≡ 6 → key ≡ bytes "section" → Some (SameNumber (sectionOf row)) (sectionsIn above) → RowFault key above row k
+  ofWall : key ≡ bytes "wall" → WallFault (stagesIn above) (sectionsIn above) (wallsIn above) (wallAs (editionIn above) row) k → RowFault key above row k
 
 -- .. with a whole sheet: 10, then 8
 pub data WholeFault (stages : List Stage) (sections : List Section) (walls : List Wall) (k : ℕ) : Type 0 where
@@ -98,7 +99,7 @@ pub data WholeFault (stages : List Stage) (sections : List Section) (walls : Lis
 
 -- ALL LINES ARE GOOD, and this is left behind `end`
 pub record AllGood (s : List ℕ) (sheet : Sheet) (left : List ℕ) : Type 0 where
-  pub good : LinesKeep document sheet
+  pub good : GoodLines document sheet
   pub whole : s ≡ textOf document sheet ++ left
 
 -- the number of the line behind `end`
@@ -112,7 +113,7 @@ pub data First (s : List ℕ) (k n : ℕ) : Type 0 where
   -- the lines from the top: a line is due, and ..
   unformed : k ≡ 2 → (a : Looked s) → n ≡ a .at .number → ((row : Row) → ¬ Says (a .at) row) → First s k n
   outside : k ≡ 3 → (a : Looked s) → n ≡ a .at .number → (row : Row) → Says (a .at) row → ¬ InRanges (a .at .line .fields) (row .numbers) → First s k n
-  broken : (a : Looked s) → n ≡ a .at .number → (row : Row) → SaysIn (a .at) row → RowFault (a .at .rule) row k → First s k n
+  broken : (a : Looked s) → n ≡ a .at .number → (row : Row) → SaysIn (a .at) row → RowFault (a .at .line .key) (a .at .above) row k → First s k n
   -- all lines are good, and bytes follow `end`; or nothing follows
   surplus : k ≡ 2 → length s ≤ 16384 → (sheet : Sheet) (b : ℕ) (left : List ℕ) → AllGood s sheet (b ∷ left) → n ≡ last sheet → First s k n
   ofAll : n ≡ 0 → (sheet : Sheet) → AllGood s sheet [] → WholeFault (stagesIn sheet) (sectionsIn sheet) (wallsIn sheet) k → First s k n
