@@ -16,11 +16,12 @@ use mir.Val.{hbits}
 use Rattle.quantity.specs.declared.gas.Share.{Share}
 use Rattle.sheet.specs.Firing.{Gas}
 use Rattle.sheet.specs.Shown.{gas}
+use Rattle.sheet.specs.Block.{sum}
 use Rattle.arith.proofs.Ring.{Ex, v, lit, #, _⊕_, _⊖_, _⊗_, ring, both-left, both-right}
 use Rattle.arith.proofs.Order.{abs-add, abs-mul, abs-pos, bound-add, bound-mul, sfits-abs}
 use Rattle.document.specs.Quantities.{share}
 use Rattle.document.proofs.Lists.{every-at}
-use Rattle.document.specs.Tests.{weigh, sumOf, all, airWeights}
+use Rattle.document.specs.Tests.{weigh, all, airWeights}
 use Rattle.document.specs.Rules.{Every}
 use Rattle.document.specs.Rows.{gasRow}
 use Rattle.document.specs.Lawful.{In, GasIn}
@@ -141,8 +142,8 @@ total : List ℤ → ℕ
 total [] = 0
 total (z ∷ zs) = natAbs z + total zs
 
-total-is : (zs : List ℤ) → Every (In share) zs → pos (total zs) ≡ sumOf zs
-unfolding total
+total-is : (zs : List ℤ) → Every (In share) zs → pos (total zs) ≡ sum (λ z. z) zs
+unfolding total sum
 total-is [] h = refl
 total-is (z ∷ zs) h = ap₂ _+ℤ_ (abs-pos (h .0 .low)) (total-is zs (h .1))
 

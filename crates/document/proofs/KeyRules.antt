@@ -18,10 +18,11 @@ use Rattle.sheet.specs.declared.Refusal.the-variants.{Material, Shares, Section
 use Rattle.sheet.specs.Refusals.{number}
 use Rattle.sheet.specs.Shown.{same}
 use Rattle.sheet.specs.Firing.{Stage, Section, Wall}
+use Rattle.sheet.specs.Block.{sum}
 use Rattle.document.specs.Schema.{Row, at}
 use Rattle.document.specs.Reader.{Sheet, Rule, sameKey}
 use Rattle.document.specs.Rows.{sectionOf, editionIn, stagesIn, sectionsIn, wallAs, wallsIn}
-use Rattle.document.specs.Tests.{alike, sumOf, weigh, airWeights, when, free, isListed, wallFault, material-rule, gas-rule, section-rule, wall-rule}
+use Rattle.document.specs.Tests.{alike, weigh, airWeights, when, free, isListed, wallFault, material-rule, gas-rule, section-rule, wall-rule}
 use Rattle.document.specs.Rules.{Some, Every, MaterialKeeps, GasKeeps, SameNumber, Listed}
 use Rattle.document.specs.GoodLines.{RowKeeps}
 use Rattle.document.specs.Order.{WallFault, elsewhere, twice, colder, RowFault, ofWare, ofSetter, ofPart, ofGas, ofSection, ofWall}
@@ -92,7 +93,7 @@ module _ (i : ℕ) (above : Sheet) (row : Row) where
 -- 5, 6
 module _ (above : Sheet) (row : Row) where
   abbrev misses : Bool
-  misses = not (same (sumOf (row .numbers)) (pos 10000) && ltZ (pos 0) (weigh airWeights (row .numbers)))
+  misses = not (same (sum (λ z. z) (row .numbers)) (pos 10000) && ltZ (pos 0) (weigh airWeights (row .numbers)))
 
   gas-said : (x : Refusal) → gas-rule above row ≡ some x → (number x ≡ 5) × ¬ GasKeeps row
   gas-said x e = (ap number (when-said misses Shares x e), asks-said (gas-asks above row) e)

@@ -17,11 +17,11 @@ use Rattle.sheet.specs.Refusals.{number}
 use Rattle.sheet.specs.declared.Refusal.the-variants.{Material, Shares, SectionTwice, NoSuchWall, ReadTwice, Missing, Colder, GasTotal}
 use Rattle.sheet.specs.Shown.{same}
 use Rattle.sheet.specs.Firing.{Stage, Section, Wall}
-use Rattle.sheet.specs.Block.{totalGas}
+use Rattle.sheet.specs.Block.{sum, totalGas}
 use Rattle.document.specs.Schema.{Row, at, within}
 use Rattle.document.specs.Reader.{Sheet}
 use Rattle.document.specs.Quantities.{gasTotal}
-use Rattle.document.specs.Tests.{alike, any, all, sumOf, weigh, airWeights, counted, isListed, isRead, when, _else_, material-rule, gas-rule, sectionFault, wallFault, wholeFault}
+use Rattle.document.specs.Tests.{alike, any, all, weigh, airWeights, counted, isListed, isRead, when, _else_, material-rule, gas-rule, sectionFault, wallFault, wholeFault}
 use Rattle.document.specs.Rules.{Some, Every, MaterialKeeps, GasKeeps, SameNumber, Listed, Staged, SameReading, WallKeeps, IsRead, AllRead, TotalKeeps}
 use Rattle.document.specs.Order.{WallFault, elsewhere, twice, colder, WholeFault, total, missing}
 use Rattle.document.proofs.Cases.{clash, both}
@@ -139,7 +139,7 @@ material-asks i seen row = here (same (pos 0) (at row i)) (same (pos 0) (at row 
     }
 
 pub gas-asks : (seen : Sheet) (row : Row) → Asks (gas-rule seen row) (GasKeeps row)
-gas-asks seen row = asks Shares (tests-and (tests-same (sumOf (row .numbers)) (pos 10000)) (tests-lt (pos 0) (weigh airWeights (row .numbers))))
+gas-asks seen row = asks Shares (tests-and (tests-same (sum (λ z. z) (row .numbers)) (pos 10000)) (tests-lt (pos 0) (weigh airWeights (row .numbers))))
 
 pub listed-test : (sections : List Section) (number : ℤ) → Tests (isListed sections number) (Some (λ x. x .number ≡ number) sections)
 listed-test sections number = tests-any (λ x. tests-same (x .number) number) sections

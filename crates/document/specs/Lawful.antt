@@ -7,10 +7,10 @@ use lib.ListN.{length}
 use lib.IntN.{ℤ, pos}
 use lib.Signed.{_≤ℤ_, _<ℤ_}
 use Rattle.sheet.specs.Firing.{Stuff, Gas, Ware, Water, Stage, Setter, Part, Section, Wall, Firing}
-use Rattle.sheet.specs.Block.{totalGas}
+use Rattle.sheet.specs.Block.{sum, totalGas}
 use Rattle.document.specs.Schema.{Field}
 use Rattle.document.specs.Quantities.{edition, firing, product, ambient, heating, fuelTemperature, share, moisture, mass, temperature, material, capacity, flue, cubicMetres, excess, monoxide, minutes, sectionNumber, place, area, stageNumber, surface, nearAir, gasTotal, stagesMost, settersMost, partsMost, sectionsMost, wallsMost}
-use Rattle.document.specs.Tests.{sumOf, weigh, airWeights}
+use Rattle.document.specs.Tests.{weigh, airWeights}
 use Rattle.document.specs.Rules.{Every, NoTwo, OwnHeat, SameNumber, Listed, SameReading, AllRead}
 use Rattle.document.specs.Rows.{gasRow}
 
@@ -67,7 +67,7 @@ pub record SectionIn (x : Section) : Type 0 where
 -- 5: the shares, each in its range, adding to 10,000, with theoretical air above 0
 pub record GasIn (g : Gas) : Type 0 where
   pub each : Every (In share) (gasRow g .numbers)
-  pub sum : sumOf (gasRow g .numbers) ≡ pos 10000
+  pub sum : sum (λ z. z) (gasRow g .numbers) ≡ pos 10000
   pub air : pos 0 <ℤ weigh airWeights (gasRow g .numbers)
 
 -- 6, 9: a reading at a listed section in one of the stages, not colder than the air near it

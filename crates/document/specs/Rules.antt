@@ -8,11 +8,11 @@ use lib.IntN.{ℤ, pos}
 use lib.Signed.{_≤ℤ_, _<ℤ_}
 use Rattle.text.specs.Bytes.{bytes}
 use Rattle.sheet.specs.Firing.{Stage, Section, Wall}
-use Rattle.sheet.specs.Block.{totalGas}
+use Rattle.sheet.specs.Block.{sum, totalGas}
 use Rattle.document.specs.Schema.{Row, at}
 use Rattle.document.specs.Reader.{Sheet, rowsOf}
 use Rattle.document.specs.Quantities.{gasTotal}
-use Rattle.document.specs.Tests.{sumOf, weigh, airWeights}
+use Rattle.document.specs.Tests.{weigh, airWeights}
 use Rattle.document.specs.Rows.{stagesIn, sectionsIn, wallsIn}
 
 abbrev pub Some : {A : Type 0} → (A → Type 0) → List A → Type 0
@@ -37,7 +37,7 @@ MaterialKeeps i row = OwnHeat (at row i) (at row (i + 1))
 
 -- 5: the shares add to 10,000, and theoretical air is above 0
 abbrev pub GasKeeps : Row → Type 0
-GasKeeps row = (sumOf (row .numbers) ≡ pos 10000) × (pos 0 <ℤ weigh airWeights (row .numbers))
+GasKeeps row = (sum (λ z. z) (row .numbers) ≡ pos 10000) × (pos 0 <ℤ weigh airWeights (row .numbers))
 
 -- 6: no section above has this number
 abbrev pub SameNumber : Section → Section → Type 0

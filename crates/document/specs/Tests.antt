@@ -10,7 +10,7 @@ use Rattle.sheet.specs.declared.Refusal.{Refusal}
 use Rattle.sheet.specs.declared.Refusal.the-variants.{Material, Shares, SectionTwice, NoSuchWall, ReadTwice, Missing, Colder, GasTotal}
 use Rattle.sheet.specs.Shown.{same}
 use Rattle.sheet.specs.Firing.{Stage, Section, Wall}
-use Rattle.sheet.specs.Block.{totalGas}
+use Rattle.sheet.specs.Block.{sum, totalGas}
 use Rattle.document.specs.Schema.{at, within}
 use Rattle.document.specs.Reader.{Sheet, Rule}
 use Rattle.document.specs.Quantities.{gasTotal}
@@ -27,10 +27,6 @@ all f (x ∷ xs) = f x && all f xs
 abbrev pub alike : Bool → Bool → Bool
 alike true b = b
 alike false b = not b
-
-abbrev pub sumOf : List ℤ → ℤ
-sumOf [] = pos 0
-sumOf (z ∷ zs) = z +ℤ sumOf zs
 
 abbrev pub weigh : List ℤ → List ℤ → ℤ
 weigh [] zs = pos 0
@@ -59,7 +55,7 @@ airWeights = pos 1 ∷ pos 0 ∷ pos 1 ∷ negsuc 1 ∷ pos 0 ∷ pos 0 ∷ pos 
 
 -- 5: the shares don't add to 10,000, or theoretical air isn't above 0
 abbrev pub gas-rule : Rule
-gas-rule seen row = when (not (same (sumOf (row .numbers)) (pos 10000) && ltZ (pos 0) (weigh airWeights (row .numbers)))) Shares
+gas-rule seen row = when (not (same (sum (λ z. z) (row .numbers)) (pos 10000) && ltZ (pos 0) (weigh airWeights (row .numbers)))) Shares
 
 -- 6: a section number stands twice
 abbrev pub isListed : List Section → ℤ → Bool

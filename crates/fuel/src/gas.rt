@@ -8,7 +8,8 @@ ghost use lib.Signed.{ltZ};
 ghost use Rattle.sheet.specs.Shown.{same};
 ghost use Rattle.document.specs.Document01.{gasLine};
 ghost use Rattle.fuel.specs.Fuel.{shares};
-ghost use Rattle.document.specs.Tests.{sumOf, weigh, airWeights, gas-rule};
+ghost use Rattle.sheet.specs.Block.{sum};
+ghost use Rattle.document.specs.Tests.{weigh, airWeights, gas-rule};
 ghost use Rattle.document.specs.Reader.{readLine};
 ghost use Rattle.document.specs.Rules.{Every};
 ghost use Rattle.due.specs.Place.{Ready, After};
@@ -84,7 +85,7 @@ fn any(sum: Tally) -> bool
 // Whether the shares do not add to 10,000, or the gas asks for no air.
 fn unburnable(gas: [Share; 13]) -> bool
     requires { ⌜ Every (λ x. natAbs (x .0) ≤ 10000) gas ⌝ }
-    ensures { λ r. ⌜ r ≡ not (same (sumOf (shares gas)) (pos 10000) && ltZ (pos 0) (weigh airWeights (shares gas))) ⌝ }
+    ensures { λ r. ⌜ r ≡ not (same (sum (λ z. z) (shares gas)) (pos 10000) && ltZ (pos 0) (weigh airWeights (shares gas))) ⌝ }
 {
     let full = whole(weighed(gas, [1; 13]));
     let burns = any(weighed(gas, AIR));

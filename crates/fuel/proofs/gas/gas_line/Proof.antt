@@ -15,7 +15,8 @@ use Rattle.limits.proofs.Laws.{within as between}
 use Rattle.quantity.specs.declared.gas.Share.{Share}
 use Rattle.sheet.specs.declared.Refusal.the-variants.{Shares}
 use Rattle.sheet.specs.Shown.{same}
-use Rattle.document.specs.Tests.{when, sumOf, weigh, airWeights, gas-rule}
+use Rattle.sheet.specs.Block.{sum}
+use Rattle.document.specs.Tests.{when, weigh, airWeights, gas-rule}
 use Rattle.document.specs.Schema.{within}
 use Rattle.document.specs.Quantities.{share}
 use Rattle.document.specs.Document01.{gasLine}
@@ -60,7 +61,7 @@ returns c =
     let t = ranged .before .gas-of in
     let n = ranged .before .before .numbers2 in
     let f = ranged .before .before .before .read-form in
-    let whole : List ℤ → Bool = λ zs. not (same (sumOf zs) (pos 10000) && ltZ (pos 0) (weigh airWeights zs)) in
+    let whole : List ℤ → Bool = λ zs. not (same (sum (λ z. z) zs) (pos 10000) && ltZ (pos 0) (weigh airWeights zs)) in
     ruled-line gasLine (n .result) (λ zs. shares (t .result .gas) ≡ zs) (gas-rule []) (u .result) Shares
     (due-form _ _ _ 13 (f .result) _ (n .result) (lit≤ tt) (n .ensures) (f .ensures)) (t .ensures) (ranged .ranged .ensures)
     (λ row h. sym (ap (λ (t : Bool). when t Shares) (u .ensures ∙ ap whole h))) (c .ruled .ensures)

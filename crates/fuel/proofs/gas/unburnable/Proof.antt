@@ -11,12 +11,14 @@ use lib.Signed.{ltZ}
 use Rattle.arith.proofs.Int.{one-*ℤ}
 use Rattle.quantity.specs.declared.gas.Share.{Share}
 use Rattle.sheet.specs.Shown.{same}
-use Rattle.document.specs.Tests.{sumOf, weigh, airWeights}
+use Rattle.sheet.specs.Block.{sum}
+use Rattle.document.specs.Tests.{weigh, airWeights}
 use Rattle.fuel.specs.Fuel.{shares}
 use Rattle.fuel.proofs.gas.unburnable.Statement.{statement}
 use Rattle.fuel.proofs.gas.unburnable.Tie as tie
 
-weigh-ones : (n : ℕ) (zs : List ℤ) → length zs ≤ n → weigh (replicate n (pos 1)) zs ≡ sumOf zs
+weigh-ones : (n : ℕ) (zs : List ℤ) → length zs ≤ n → weigh (replicate n (pos 1)) zs ≡ sum (λ z. z) zs
+unfolding sum
 weigh-ones zero [] h = refl
 weigh-ones (suc n) [] h = refl
 weigh-ones zero (z ∷ zs) h = absurd (omega arith)
@@ -26,17 +28,17 @@ weigh-ones (suc n) (z ∷ zs) h = ap₂ _+ℤ_ (one-*ℤ z) (weigh-ones n zs (om
 joined : (full burns : Bool) (t u : Bool) → full ≡ t → burns ≡ u → not (full && burns) ≡ not (t && u)
 joined full burns t u e f = rw (e, f)
 
-module _ (gas : List Share) (few : length gas ≡ 13) {sum air : ℤ} {full burns : Bool}
-    (s : sum ≡ weigh (replicate 13 (pos 1)) (shares gas)) (a : air ≡ weigh airWeights (shares gas))
-    (f : full ≡ same sum (pos 10000)) (b : burns ≡ ltZ (pos 0) air) where
-  tests : not (full && burns) ≡ not (same (sumOf (shares gas)) (pos 10000) && ltZ (pos 0) (weigh airWeights (shares gas)))
+module _ (gas : List Share) (few : length gas ≡ 13) {total air : ℤ} {full burns : Bool}
+    (s : total ≡ weigh (replicate 13 (pos 1)) (shares gas)) (a : air ≡ weigh airWeights (shares gas))
+    (f : full ≡ same total (pos 10000)) (b : burns ≡ ltZ (pos 0) air) where
+  tests : not (full && burns) ≡ not (same (sum (λ z. z) (shares gas)) (pos 10000) && ltZ (pos 0) (weigh airWeights (shares gas)))
   tests =
       let one = weigh-ones 13 (shares gas) (omega (arith, length-map gas (λ (x : Share). x .0))) in
       joined full burns _ _ (f ∙ ap (λ (z : ℤ). same z (pos 10000)) (s ∙ one)) (b ∙ ap (λ (z : ℤ). ltZ (pos 0) z) a)
 
 -- the definition's test by the code's two
 by-tests : (c : tie.After-any) → let g = c .before .before .before .before .args .gas in
-    not (c .before .before .whole .result && c .any .result) ≡ not (same (sumOf (shares g)) (pos 10000) && ltZ (pos 0) (weigh airWeights (shares g)))
+    not (c .before .before .whole .result && c .any .result) ≡ not (same (sum (λ z. z) (shares g)) (pos 10000) && ltZ (pos 0) (weigh airWeights (shares g)))
 by-tests c =
     let w = c .before in
     let f = w .before in
