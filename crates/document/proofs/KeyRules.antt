@@ -67,9 +67,9 @@ by-key C key (x ∷ xs) k h = here (sameKey key (x .key)) refl (by-key C key xs 
     here true q rest = k .0 (key-is key (x .key) q)
     here false q rest = rest
 
--- A TEST THAT SPOKE: its one refusal; and one that is not silent speaks
-when-said : (t : Bool) (r x : Refusal) → when t r ≡ some x → x ≡ r
-when-said true r x e = cc
+-- A TEST THAT SPOKE said its one refusal, and one that is not silent says it
+when-said : (t : Bool) (r x : Refusal) → when t r ≡ some x → (t ≡ true) × (x ≡ r)
+when-said true r x e = (refl, cc)
 when-said false r x e = clash cc
 
 when-some : (t : Bool) (r : Refusal) → ¬ (when t r ≡ none) → when t r ≡ some r
@@ -81,35 +81,33 @@ asks-said a e p = let z = a .from p in clash cc
 
 -- 4
 module _ (i : ℕ) (above : Sheet) (row : Row) where
-  abbrev unlike : Bool
-  unlike = alike (same (pos 0) (at row i)) (same (pos 0) (at row (i + 1)))
+  abbrev unsuited : Bool
+  unsuited = alike (same (pos 0) (at row i)) (same (pos 0) (at row (i + 1)))
 
   material-said : (x : Refusal) → material-rule i above row ≡ some x → (number x ≡ 4) × ¬ MaterialKeeps i row
-  material-said x e = (ap number (when-said unlike (Material (i + 1)) x e), asks-said (material-asks i above row) e)
+  material-said x e = (ap number (when-said unsuited (Material (i + 1)) x e .1), asks-said (material-asks i above row) e)
 
   material-heard : ¬ MaterialKeeps i row → material-rule i above row ≡ some (Material (i + 1))
-  material-heard n = when-some unlike (Material (i + 1)) (λ q. n (material-asks i above row .to q))
+  material-heard n = when-some unsuited (Material (i + 1)) (λ q. n (material-asks i above row .to q))
 
 -- 5, 6
 module _ (above : Sheet) (row : Row) where
-  abbrev misses : Bool
-  misses = not (same (sum (λ z. z) (row .numbers)) (pos 10000) && ltZ (pos 0) (weigh airWeights (row .numbers)))
+  abbrev unburnable : Bool
+  unburnable = not (same (sum (λ z. z) (row .numbers)) (pos 10000) && ltZ (pos 0) (weigh airWeights (row .numbers)))
 
   gas-said : (x : Refusal) → gas-rule above row ≡ some x → (number x ≡ 5) × ¬ GasKeeps row
-  gas-said x e = (ap number (when-said misses Shares x e), asks-said (gas-asks above row) e)
+  gas-said x e = (ap number (when-said unburnable Shares x e .1), asks-said (gas-asks above row) e)
 
   gas-heard : ¬ GasKeeps row → gas-rule above row ≡ some Shares
-  gas-heard n = when-some misses Shares (λ q. n (gas-asks above row .to q))
+  gas-heard n = when-some unburnable Shares (λ q. n (gas-asks above row .to q))
 
   abbrev again : Bool
   again = isListed (sectionsIn above) (sectionOf row .number)
 
   section-said : (x : Refusal) → section-rule above row ≡ some x → (number x ≡ 6) × Some (SameNumber (sectionOf row)) (sectionsIn above)
-  section-said x e = (ap number (when-said again SectionTwice x e), listed-test (sectionsIn above) (sectionOf row .number) .yes (spoke again e))
-    where
-      spoke : (t : Bool) → when t SectionTwice ≡ some x → t ≡ true
-      spoke true e = refl
-      spoke false e = clash cc
+  section-said x e =
+      let w = when-said again SectionTwice x e in
+      (ap number (w .1), listed-test (sectionsIn above) (sectionOf row .number) .yes (w .0))
 
   section-heard : Some (SameNumber (sectionOf row)) (sectionsIn above) → section-rule above row ≡ some SectionTwice
   section-heard t = when-some again SectionTwice (λ q. section-asks (sectionsIn above) (sectionOf row) .to q t)

@@ -27,7 +27,7 @@ pub record GoodRow (l : Line) (above : Sheet) (row : Row) : Type 0 where
   pub within : InRanges (l .fields) (row .numbers)
   pub keeps : RowKeeps (l .key) above row
 
--- good lines of one kind, of which some rows stand above already
+-- good lines of one kind, one below the other, behind rows of the same kind that stand above them already
 abbrev pub GoodRows : Line → Sheet → List Row → List Row → Type 0
 GoodRows l above before [] = Unit {0}
 GoodRows l above before (row ∷ rows) = GoodRow l (above ++ filled l before) row × GoodRows l above (before ++ (row ∷ [])) rows

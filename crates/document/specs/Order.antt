@@ -19,7 +19,8 @@ use Rattle.document.specs.Rules.{Some, Every, MaterialKeeps, GasKeeps, S
 use Rattle.document.specs.Lawful.{In, InRanges}
 use Rattle.document.specs.GoodLines.{GoodRows, GoodParagraph, GoodLines}
 
--- A LINE THAT IS DUE: its number, its key and fields, all that stands above it, and the text from it on
+-- A LINE THAT IS DUE: its number, its key and fields, all that stands above it (under its own key the rows of its block so far), and the
+-- text from it on
 pub record DueLine : Type 0 where
   pub number : ℕ
   pub line : Line
