@@ -3,9 +3,13 @@
 // says neither, for a program of this language has none but 0.
 use libc::STDERR_FILENO;
 use libc::STDOUT_FILENO;
+use sheet::SHEET_MOST;
+
+// Room for the longest sheet and one byte more, so that a longer one is seen to be longer.
+const ROOM: usize = SHEET_MOST + 1;
 
 fn main() {
-    let mut room = [0u8; 16385];
+    let mut room = [0u8; ROOM];
     let sheet = streams::read_all(&mut room);
     if sheet.failed {
         io::write_all(STDERR_FILENO, b"balance: the sheet could not be read\n");

@@ -9,6 +9,7 @@ use Rattle.document.specs.Reader.{Sheet, readParagraph}
 use Rattle.document.specs.Rows.{setterOf, partOf}
 use Rattle.document.specs.Document01.{setterLine, partLine, setters, parts}
 use Rattle.sheet.specs.Blank.{blankSetter, blankPart}
+use Rattle.sheet.specs.Quantities.{settersMost, partsMost}
 use Rattle.due.specs.declared.Place.{Place}
 use Rattle.due.specs.Place.{After}
 use Rattle.due.specs.Block.{Filled, With}
@@ -19,10 +20,10 @@ use Rattle.due.specs.Said.{Saying, saysAll}
 
 -- the setters and the parts, each by itself and as a group
 abbrev pub SetterRows : Setters → List Row → Type 0
-SetterRows x = Filled setter setterOf blankSetter 32 (x .count .0) (x .lines)
+SetterRows x = Filled setter setterOf blankSetter settersMost (x .count .0) (x .lines)
 
 abbrev pub PartRows : Parts → List Row → Type 0
-PartRows x = Filled part partOf blankPart 32 (x .count .0) (x .lines)
+PartRows x = Filled part partOf blankPart partsMost (x .count .0) (x .lines)
 
 abbrev pub SettersRead : List ℕ → Place → SetterBlock → Type 0
 SettersRead s p r = (seen : Sheet) → After s p (readParagraph (setters .paragraph) seen) (r .place) (With setterLine seen (SetterRows (r .setters)))

@@ -13,6 +13,7 @@ ghost use Rattle.due.specs.Block.{CountAfter, Filled};
 ghost use Rattle.document.specs.Schema.{plain};
 ghost use Rattle.due.specs.Taking.{from, Taken};
 ghost use Rattle.sheet.specs.Blank.{blankPart};
+ghost use Rattle.sheet.specs.Quantities.{partsMost};
 ghost use Rattle.blocks.specs.Loads.{PartsRead};
 use due::Place;
 use due::due;
@@ -25,6 +26,7 @@ use quantity::kiln::Material;
 use quantity::mass::Kilos;
 use quantity::sheet::PartCount;
 use quantity::temperature::Degrees;
+use sheet::FIELDS_MOST;
 use sheet::Part;
 use sheet::Parts;
 use sheet::Refusal;
@@ -38,7 +40,7 @@ pub struct PartCounted {
 // The line `parts`.
 fn part_count(s: &[u8], p: Place) -> PartCounted
     requires { ⌜ Ready (now s) p ⌝ }
-    ensures { λ r. ⌜ CountAfter (now (s .entry)) p (countLine (bytes "parts") 0 32) (r .place) (r .count .0) 32 ⌝ }
+    ensures { λ r. ⌜ CountAfter (now (s .entry)) p (countLine (bytes "parts") 0 partsMost) (r .place) (r .count .0) partsMost ⌝ }
 {
     let d = due(s, p, b"parts=", 1);
     let v = d.values;
@@ -56,7 +58,7 @@ pub struct PartTaken {
 }
 
 // A part of the kiln body from the five numbers of its line.
-fn part_of(v: [Number; 13]) -> PartTaken
+fn part_of(v: [Number; FIELDS_MOST]) -> PartTaken
     ensures { λ r. ⌜ Taken (partLine .fields) (from 0 5 v) (r .fault) (λ zs. part (r .part) ≡ partOf (plain zs)) ⌝ }
 {
     let n0 = v[0];
@@ -109,18 +111,18 @@ fn part_line(s: &[u8], p: Place) -> PartLine
 
 pub struct PartRows {
     pub place: Place,
-    pub lines: [Part; 32],
+    pub lines: [Part; PartCount::GREATEST],
 }
 
 // k lines `part`.
 fn part_rows(s: &[u8], start: Place, k: usize) -> PartRows
-    requires { ⌜ k ≤ 32 ⌝ }
+    requires { ⌜ k ≤ partsMost ⌝ }
     requires { ⌜ Ready (now s) start ⌝ }
     ensures { λ r. ⌜ ((seen : Sheet) → After (now (s .entry)) start (readRows k partLine (material-rule 1) seen []) (r .place)
-        (Filled part partOf blankPart 32 k (r .lines))) ⌝ }
+        (Filled part partOf blankPart partsMost k (r .lines))) ⌝ }
 {
     let none = sheet::blank::part();
-    let mut lines = [none; 32];
+    let mut lines = [none; PartCount::GREATEST];
     let mut p = start;
     let mut i = 0;
     while i < k {

@@ -13,6 +13,7 @@ ghost use Rattle.due.specs.Block.{CountAfter, Filled};
 ghost use Rattle.document.specs.Schema.{plain};
 ghost use Rattle.due.specs.Taking.{from, Taken};
 ghost use Rattle.sheet.specs.Blank.{blankSetter};
+ghost use Rattle.sheet.specs.Quantities.{settersMost};
 ghost use Rattle.blocks.specs.Loads.{SettersRead};
 use due::Place;
 use due::due;
@@ -25,6 +26,7 @@ use quantity::kiln::Material;
 use quantity::mass::Kilos;
 use quantity::sheet::SetterCount;
 use quantity::temperature::Degrees;
+use sheet::FIELDS_MOST;
 use sheet::Refusal;
 use sheet::Setter;
 use sheet::Setters;
@@ -38,7 +40,7 @@ pub struct SetterCounted {
 // The line `setters`.
 fn setter_count(s: &[u8], p: Place) -> SetterCounted
     requires { ⌜ Ready (now s) p ⌝ }
-    ensures { λ r. ⌜ CountAfter (now (s .entry)) p (countLine (bytes "setters") 0 32) (r .place) (r .count .0) 32 ⌝ }
+    ensures { λ r. ⌜ CountAfter (now (s .entry)) p (countLine (bytes "setters") 0 settersMost) (r .place) (r .count .0) settersMost ⌝ }
 {
     let d = due(s, p, b"setters=", 1);
     let v = d.values;
@@ -56,7 +58,7 @@ pub struct SetterTaken {
 }
 
 // A setter from the four numbers of its line.
-fn setter_of(v: [Number; 13]) -> SetterTaken
+fn setter_of(v: [Number; FIELDS_MOST]) -> SetterTaken
     ensures { λ r. ⌜ Taken (setterLine .fields) (from 0 4 v) (r .fault) (λ zs. setter (r .setter) ≡ setterOf (plain zs)) ⌝ }
 {
     let n0 = v[0];
@@ -101,18 +103,18 @@ fn setter_line(s: &[u8], p: Place) -> SetterLine
 
 pub struct SetterRows {
     pub place: Place,
-    pub lines: [Setter; 32],
+    pub lines: [Setter; SetterCount::GREATEST],
 }
 
 // k lines `setter`.
 fn setter_rows(s: &[u8], start: Place, k: usize) -> SetterRows
-    requires { ⌜ k ≤ 32 ⌝ }
+    requires { ⌜ k ≤ settersMost ⌝ }
     requires { ⌜ Ready (now s) start ⌝ }
     ensures { λ r. ⌜ ((seen : Sheet) → After (now (s .entry)) start (readRows k setterLine (material-rule 2) seen []) (r .place)
-        (Filled setter setterOf blankSetter 32 k (r .lines))) ⌝ }
+        (Filled setter setterOf blankSetter settersMost k (r .lines))) ⌝ }
 {
     let none = sheet::blank::setter();
-    let mut lines = [none; 32];
+    let mut lines = [none; SetterCount::GREATEST];
     let mut p = start;
     let mut i = 0;
     while i < k {

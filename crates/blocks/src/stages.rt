@@ -6,6 +6,7 @@ ghost use Prim.Native.Nat.{_≤_};
 ghost use Rattle.text.specs.Bytes.{bytes};
 ghost use Rattle.sheet.specs.Shown.{stage};
 ghost use Rattle.sheet.specs.Blank.{blankStage};
+ghost use Rattle.sheet.specs.Quantities.{stagesMost, stagesLeast};
 ghost use Rattle.document.specs.Schema.{plain};
 ghost use Rattle.document.specs.Tests.{free};
 ghost use Rattle.document.specs.Document01.{stageLine};
@@ -25,6 +26,7 @@ use quantity::gas::ExcessAir;
 use quantity::kiln::Minutes;
 use quantity::sheet::StageCount;
 use quantity::temperature::FlueTemperature;
+use sheet::FIELDS_MOST;
 use sheet::Stage;
 use sheet::Stages;
 
@@ -36,7 +38,7 @@ pub struct StageCounted {
 // The line `stages`.
 fn stage_count(s: &[u8], p: Place) -> StageCounted
     requires { ⌜ Ready (now s) p ⌝ }
-    ensures { λ r. ⌜ CountAfter (now (s .entry)) p (countLine (bytes "stages") 1 12) (r .place) (r .count .0) 12 ⌝ }
+    ensures { λ r. ⌜ CountAfter (now (s .entry)) p (countLine (bytes "stages") stagesLeast stagesMost) (r .place) (r .count .0) stagesMost ⌝ }
 {
     let d = due(s, p, b"stages=", 1);
     let v = d.values;
@@ -54,7 +56,7 @@ pub struct StageTaken {
 }
 
 // A stage from the five numbers of its line.
-fn stage_of(v: [Number; 13]) -> StageTaken
+fn stage_of(v: [Number; FIELDS_MOST]) -> StageTaken
     ensures { λ r. ⌜ Taken (stageLine .fields) (from 0 5 v) (r .fault) (λ zs. stage (r .stage) ≡ stageOf (plain zs)) ⌝ }
 {
     let n0 = v[0];
@@ -105,18 +107,18 @@ fn stage_line(s: &[u8], p: Place) -> StageLine
 
 pub struct StageRows {
     pub place: Place,
-    pub lines: [Stage; 12],
+    pub lines: [Stage; StageCount::GREATEST],
 }
 
 // k lines `stage`.
 fn stage_rows(s: &[u8], start: Place, k: usize) -> StageRows
-    requires { ⌜ k ≤ 12 ⌝ }
+    requires { ⌜ k ≤ stagesMost ⌝ }
     requires { ⌜ Ready (now s) start ⌝ }
     ensures { λ r. ⌜ ((seen : Sheet) → After (now (s .entry)) start (readRows k stageLine free seen []) (r .place)
-        (Filled stage stageOf blankStage 12 k (r .lines))) ⌝ }
+        (Filled stage stageOf blankStage stagesMost k (r .lines))) ⌝ }
 {
     let none = sheet::blank::stage();
-    let mut lines = [none; 12];
+    let mut lines = [none; StageCount::GREATEST];
     let mut p = start;
     let mut i = 0;
     while i < k {

@@ -19,7 +19,7 @@ use Rattle.sheet.specs.Shown.{gas}
 use Rattle.sheet.specs.Block.{sum}
 use Rattle.arith.proofs.Ring.{Ex, v, lit, #, _⊕_, _⊖_, _⊗_, ring, both-left, both-right}
 use Rattle.arith.proofs.Order.{abs-add, abs-mul, abs-pos, bound-add, bound-mul, sfits-abs}
-use Rattle.document.specs.Quantities.{share}
+use Rattle.sheet.specs.Quantities.{share, gases}
 use Rattle.document.proofs.Lists.{every-at}
 use Rattle.document.specs.Tests.{weigh, all, airWeights}
 use Rattle.document.specs.Rules.{Every}
@@ -61,9 +61,9 @@ below-at P (suc n) i p h = go (decLe n i) (λ k. below-at P n i (p .1) k)
     go (yes g) rest = let e : i ≡ n = omega arith in rw e (p .0)
     go (no f) rest = rest (omega arith)
 
-pub share-at : (l : List Share) (i : ℕ) → i < 13 → getD (gasRow (gas l) .numbers) i (pos 0) ≡ getD l i none .0
+pub share-at : (l : List Share) (i : ℕ) → i < gases → getD (gasRow (gas l) .numbers) i (pos 0) ≡ getD l i none .0
 share-at l i h =
-    below-at (λ j. getD (gasRow (gas l) .numbers) j (pos 0) ≡ getD (map (λ x. x .0) l) j (pos 0)) 13 i
+    below-at (λ j. getD (gasRow (gas l) .numbers) j (pos 0) ≡ getD (map (λ x. x .0) l) j (pos 0)) gases i
     (refl, (refl, (refl, (refl, (refl, (refl, (refl, (refl, (refl, (refl, (refl, (refl, (refl, tt)))))))))))))
     h
     ∙ List·getD-map (λ x. x .0) l i none
@@ -181,7 +181,7 @@ module _ (W : ℕ) where
 abbrev pub so-far : (Kind → ℤ) → List Share → ℕ → ℤ
 so-far f l i = weigh (take i (map f kinds)) (shares (gas l))
 
-module _ (f : Kind → ℤ) (z : f noKind ≡ pos 0) (l : List Share) (i : ℕ) (h : i < 13) where
+module _ (f : Kind → ℤ) (z : f noKind ≡ pos 0) (l : List Share) (i : ℕ) (h : i < gases) where
   weight-at : getD (map f kinds) i (pos 0) ≡ f (kindAt i)
   weight-at = subst (λ (d : ℤ). getD (map f kinds) i d ≡ f (kindAt i)) z (List·getD-map f kinds i noKind)
 

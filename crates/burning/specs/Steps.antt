@@ -2,7 +2,7 @@
 use lib.IntN.{ℤ, pos, _+ℤ_, _*ℤ_}
 use mir.Syntax.{w64}
 use mir.Val.{SFits}
-use Rattle.document.specs.Quantities.{ambient, heating, fuelTemperature, gasTotal}
+use Rattle.sheet.specs.Quantities.{ambient, heating, fuelTemperature, gasTotal}
 use Rattle.document.specs.Lawful.{In}
 use Rattle.formulas.specs.Figures.{Within}
 use Rattle.formulas.specs.Sizes.{mixedColdMost, mixedRiseMost}

@@ -3,6 +3,7 @@ ghost use Rattle.sheet.specs.Shown.{gas as gasOf};
 ghost use Rattle.document.specs.Lawful.{GasIn};
 ghost use Rattle.burning.specs.Mixture.{WarmthFits, WarmthWith, Warmed, BurningFits, BurningWith, Burns};
 use quantity::gas::Share;
+use sheet::GASES;
 
 // What the shares come to in specific heat: c at 0 °C and its rise to 100 °C, in 1e-7 kJ/(m³·°C).
 pub struct Warmth {
@@ -28,7 +29,7 @@ pub struct Kind {
 }
 
 // The gases in the gas line's order.
-const TABLE_A1: [Kind; 13] = [
+const TABLE_A1: [Kind; GASES] = [
     Kind {
         cold: 1275,
         hot: 1287,
@@ -135,14 +136,14 @@ fn warmth_with(sum: Warmth, kind: Kind, share: Share) -> Warmth
 }
 
 // The specific heat of a sheet's fuel.
-pub fn warmth_of(gas: [Share; 13]) -> Warmth
+pub fn warmth_of(gas: [Share; GASES]) -> Warmth
     requires { ⌜ GasIn (gasOf gas) ⌝ }
     ensures { λ r. ⌜ Warmed (gasOf gas) r ⌝ }
 {
     // So written for the compiler: docs/DECISIONS.md, "A constant array is bound before a loop".
     let kinds = TABLE_A1;
     let mut sum = Warmth { cold: 0, rise: 0 };
-    for i in 0..13 {
+    for i in 0..GASES {
         let kind = kinds[i];
         sum = warmth_with(sum, kind, gas[i]);
     }
@@ -163,7 +164,7 @@ fn burning_with(sum: Burning, kind: Kind, share: Share) -> Burning
 }
 
 // The burning of a sheet's fuel.
-pub fn burning_of(gas: [Share; 13]) -> Burning
+pub fn burning_of(gas: [Share; GASES]) -> Burning
     requires { ⌜ GasIn (gasOf gas) ⌝ }
     ensures { λ r. ⌜ Burns (gasOf gas) r ⌝ }
 {
@@ -174,7 +175,7 @@ pub fn burning_of(gas: [Share; 13]) -> Burning
         dry: 0,
         vapour: 0,
     };
-    for i in 0..13 {
+    for i in 0..GASES {
         let kind = kinds[i];
         sum = burning_with(sum, kind, gas[i]);
     }

@@ -1,5 +1,5 @@
 -- Demands 1 and 2, from the laws of the reader and of the answer. Assumes nothing.
-use Prim.Native.Nat.{ℕ, _≤_, _<_}
+use Prim.Native.Nat.{ℕ, _+_, _≤_, _<_}
 use mathlib.Core.Path.{_≡_, refl, sym, ap, _∙_}
 use mathlib.Core.Bool.{Bool, true, false, cond}
 use mathlib.Core.List.{List}
@@ -11,6 +11,7 @@ use borrow.Author.Tests.{ltb-false}
 use Rattle.pen.specs.Writing.{over}
 use Rattle.sheet.specs.Refusals.{number}
 use Rattle.sheet.specs.Firing.{Firing}
+use Rattle.sheet.specs.Quantities.{sheetMost}
 use Rattle.document.specs.Reader as reader
 use Rattle.document.specs.Reader.{Sheet, Good, readOf}
 use Rattle.document.specs.Editions.{document, sheetOf}
@@ -87,14 +88,14 @@ apart s k r =
     let e : 0 ≡ r .number = ap (λ (y : Answer). y .refusal) (sym a ∙ r .told (report f) .answer) in
     absurd (let z : ⊥ = omega (arith, r .least) in z)
 
-fitted-numbers : (t : List ℕ) (room : ℕ) → (fitted t room .refusal ≤ 11) × (fitted t room .line ≤ 16385)
+fitted-numbers : (t : List ℕ) (room : ℕ) → (fitted t room .refusal ≤ 11) × (fitted t room .line ≤ sheetMost + 1)
 fitted-numbers t room = here (ltb room (length t))
   where
-    here : (b : Bool) → (cond b (refusedAs 11 0) (accepted (length t)) .refusal ≤ 11) × (cond b (refusedAs 11 0) (accepted (length t)) .line ≤ 16385)
+    here : (b : Bool) → (cond b (refusedAs 11 0) (accepted (length t)) .refusal ≤ 11) × (cond b (refusedAs 11 0) (accepted (length t)) .line ≤ sheetMost + 1)
     here true = (omega arith, omega arith)
     here false = (omega arith, omega arith)
 
-numbers : (s : List ℕ) (room : ℕ) (a : reader.Answer) → readOf document s ≡ a → (answered a room .refusal ≤ 11) × (answered a room .line ≤ 16385)
+numbers : (s : List ℕ) (room : ℕ) (a : reader.Answer) → readOf document s ≡ a → (answered a room .refusal ≤ 11) × (answered a room .line ≤ sheetMost + 1)
 numbers s room (reader.Refused x n) said = (omega (arith, first-number (heard-first s x n said)), refuses s x n said .within)
 numbers s room (Good sheet) said = fitted-numbers (report (firingOf sheet)) room
 

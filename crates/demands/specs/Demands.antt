@@ -1,11 +1,12 @@
 -- Document 01's demands 1 and 2: which texts are answered with a report, and what every other one hears. The answer is that of
 -- `kiln::balance`, by its contract: `answerOf` the numbers that come back, `bufferOf` the room that was lent.
-use Prim.Native.Nat.{ℕ, _≤_, _<_}
+use Prim.Native.Nat.{ℕ, _+_, _≤_, _<_}
 use mathlib.Core.Path.{_≡_}
 use mathlib.Core.List.{List, _++_}
 use mathlib.Core.Logic.{_⊎_}
 use lib.ListN.{length, drop}
 use Rattle.sheet.specs.Firing.{Firing}
+use Rattle.sheet.specs.Quantities.{sheetMost}
 use Rattle.document.specs.Reader.{textOf}
 use Rattle.document.specs.Editions.{document, sheetOf}
 use Rattle.document.specs.Lawful.{Lawful}
@@ -45,7 +46,7 @@ pub record Refused (s : List ℕ) : Type 0 where
   pub line : ℕ
   pub least : 1 ≤ number
   pub most : number ≤ 10
-  pub within : line ≤ 16385
+  pub within : line ≤ sheetMost + 1
   pub first : First s number line
   pub told : (room : List ℕ) → Declined s room number line
 
@@ -55,7 +56,7 @@ pub record Demand1 : Type 0 where
   pub apart : (s : List ℕ) → Kept s → ¬ Refused s
   -- every number and every line that is ever answered
   pub numbers : (s : List ℕ) (room : ℕ) → answerOf s room .refusal ≤ 11
-  pub lines : (s : List ℕ) (room : ℕ) → answerOf s room .line ≤ 16385
+  pub lines : (s : List ℕ) (room : ℕ) → answerOf s room .line ≤ sheetMost + 1
   -- what the reader says is answered in every room
   pub heard : (s room : List ℕ) (k n : ℕ) → Hears s k n → Declined s room k n
   -- and it says the first that applies, in document 01's order, and no other

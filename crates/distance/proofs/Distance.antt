@@ -19,7 +19,7 @@ use Rattle.arith.proofs.RootLaws.{root-is}
 use Rattle.sheet.specs.Firing.{Stage, Section, Firing}
 use Rattle.sheet.specs.Shown.{same as alike}
 use Rattle.sheet.specs.Block.{sum, totalGas}
-use Rattle.document.specs.Quantities.{product, ambient, heating, flue, monoxide, gasTotal}
+use Rattle.sheet.specs.Quantities.{product, ambient, heating, flue, monoxide, gasTotal}
 use Rattle.document.specs.Rules.{Every}
 use Rattle.document.specs.Rows.{firingOf}
 use Rattle.document.specs.Lawful.{In, StageIn, SectionIn, Lawful}

@@ -9,8 +9,9 @@ use lib.ListN.{length, drop, getD}
 use lib.Seq.{append-snoc, drop-append-seam}
 use lib.IntN.{ℤ, pos, negsuc, natAbs}
 use Rattle.sheet.specs.declared.Refusal.{Refusal}
+use Rattle.sheet.specs.Quantities.{to}
 use Rattle.document.specs.Schema.{Line, Row, plain, lineText, fits, within, inRanges, sound, Judged, refused, values, judge}
-use Rattle.document.specs.Reader.{Filled, Sheet, Rule, Paragraph, one, many, to, soundParagraph, soundParagraphs, countLine, rowsText, paragraphText, sheetText, stopped, got, _>>=_, return, judged, readLine, filled, readRows, readParagraph, readParagraphs, behind, behindAll, RowsKeep, ParagraphKeeps, ParagraphsKeep}
+use Rattle.document.specs.Reader.{Filled, Sheet, Rule, Paragraph, one, many, soundParagraph, soundParagraphs, countLine, rowsText, paragraphText, sheetText, stopped, got, _>>=_, return, judged, readLine, filled, readRows, readParagraph, readParagraphs, behind, behindAll, RowsKeep, ParagraphKeeps, ParagraphsKeep}
 use Rattle.document.proofs.Cases.{clash, both, on-none, andThen-got}
 use Rattle.document.proofs.Judged.{is-fit, judge-text, judge-values}
 

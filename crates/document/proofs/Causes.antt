@@ -11,7 +11,8 @@ use lib.Seq.{append-snoc}
 use lib.IntN.{pos, natAbs}
 use Rattle.sheet.specs.declared.Refusal.{Refusal}
 use Rattle.document.specs.Schema.{on, Line, Row, plain, at, lineText, Judged, refused, values, judge}
-use Rattle.document.specs.Reader.{Filled, Sheet, Rule, Paragraph, one, many, to, countLine, filled, rowsText, paragraphText, behind, soundParagraph, soundParagraphs, Read, stopped, got, andThen, _>>=_, return, judged, readLine, readRows, readParagraph, readParagraphs, readLines, RowsKeep}
+use Rattle.document.specs.Reader.{Filled, Sheet, Rule, Paragraph, one, many, countLine, filled, rowsText, paragraphText, behind, soundParagraph, soundParagraphs, Read, stopped, got, andThen, _>>=_, return, judged, readLine, readRows, readParagraph, readParagraphs, readLines, RowsKeep}
+use Rattle.sheet.specs.Quantities.{to}
 use Rattle.document.specs.Editions.{document}
 use Rattle.document.specs.Rows.{editionIn}
 use Rattle.document.specs.Rules.{Every}

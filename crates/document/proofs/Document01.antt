@@ -3,6 +3,7 @@ use mathlib.Core.Path.{_≡_, refl}
 use mathlib.Core.List.{[], _∷_}
 use lib.IntN.{pos}
 use Rattle.text.specs.Bytes.{bytes}
+use Rattle.sheet.specs.Quantities.{stagesLeast, stagesMost, settersMost, partsMost, sectionsLeast, sectionsMost, wallsMost}
 use Rattle.document.specs.Reader.{one, many}
 use Rattle.document.specs.Tests.{free, gas-rule, material-rule, section-rule, wall-rule}
 use Rattle.document.specs.Document01.{sheetLine, firingLine, productLine, ambientLine, fuelLine, gasLine, airLine, wareLine, waterLine, clayLine, stageLine, setterLine, partLine, sectionLine, wallLine, endLine}
@@ -21,11 +22,11 @@ pub lines01 : allLines (pos 1) ≡
     ∷ one wareLine (material-rule 3)
     ∷ one waterLine free
     ∷ one clayLine free
-    ∷ many (bytes "stages") 1 12 stageLine free
-    ∷ many (bytes "setters") 0 32 setterLine (material-rule 2)
-    ∷ many (bytes "parts") 0 32 partLine (material-rule 1)
-    ∷ many (bytes "sections") 1 12 sectionLine section-rule
-    ∷ many (bytes "walls") 0 48 wallLine wall-rule
+    ∷ many (bytes "stages") stagesLeast stagesMost stageLine free
+    ∷ many (bytes "setters") 0 settersMost setterLine (material-rule 2)
+    ∷ many (bytes "parts") 0 partsMost partLine (material-rule 1)
+    ∷ many (bytes "sections") sectionsLeast sectionsMost sectionLine section-rule
+    ∷ many (bytes "walls") 0 wallsMost wallLine wall-rule
     ∷ one endLine free
     ∷ []
 unfolding entriesOf

@@ -12,7 +12,7 @@ use Rattle.sheet.specs.Firing.{Stage, Wall, Firing}
 use Rattle.sheet.specs.Block.{sum}
 use Rattle.document.specs.Schema.{Row}
 use Rattle.document.specs.Reader.{Sheet, rowsOf, Paragraph, keyOf}
-use Rattle.document.specs.Quantities.{edition, firing, product, ambient, heating, fuelTemperature, share, moisture, mass, sectionNumber, stageNumber, surface, nearAir, stagesMost, settersMost, partsMost, sectionsMost, wallsMost}
+use Rattle.sheet.specs.Quantities.{edition, firing, product, ambient, heating, fuelTemperature, share, moisture, mass, sectionNumber, stageNumber, surface, nearAir, stagesMost, settersMost, partsMost, sectionsMost, wallsMost, gases}
 use Rattle.document.specs.Tests.{weigh, airWeights}
 use Rattle.document.specs.Entries.{Entry, paragraphsOf}
 use Rattle.document.specs.Document01.{gasLine, stageLine, setterLine, partLine, sectionLine, wallLine, opening, heading, fuelling, drying, staging, loading, surfaces, ending}
@@ -109,7 +109,7 @@ gas-in {rows = rows} o k =
     let back = sym (row-back gasLine (o .row) (o .fit)) in
     let kept = subst (λ (l : List Row). Every GasKeeps l) (o .is) k .0 in
     rw (o .is) (record {
-      each = subst (λ (r : Row). Every (In share) (r .numbers)) back (all-in 13 share (o .row .numbers) (is-fit gasLine (o .row) (o .fit) .inside));
+      each = subst (λ (r : Row). Every (In share) (r .numbers)) back (all-in gases share (o .row .numbers) (is-fit gasLine (o .row) (o .fit) .inside));
       sum = subst (λ (r : Row). sum (λ z. z) (r .numbers) ≡ pos 10000) back (kept .0);
       air = subst (λ (r : Row). pos 0 <ℤ weigh airWeights (r .numbers)) back (kept .1);
     })

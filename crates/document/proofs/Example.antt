@@ -1,6 +1,6 @@
 -- Document 01's whole firing and its listed edges, read by computation: one table of cases, and one proof.
 -- Assumes nothing.
-use Prim.Native.Nat.{ℕ}
+use Prim.Native.Nat.{ℕ, _+_}
 use Prim.Native.String.{String}
 use mathlib.Core.Path.{_≡_, refl}
 use mathlib.Core.List.{List, [], _∷_, _++_}
@@ -11,6 +11,7 @@ use Rattle.text.specs.Number.{digitsRead, unsigned, numberWithin}
 use Rattle.text.specs.Scanning.{upTo, begins}
 use Rattle.sheet.specs.Refusals as refusals
 use Rattle.sheet.specs.Block.{sum}
+use Rattle.sheet.specs.Quantities.{sheetMost}
 use Rattle.document.specs.Schema.{pieces, numbersOf, formedBy, outsideOf, judge}
 use Rattle.document.specs.Reader.{readLine, readRows, readParagraphs, Answer, Refused, Good, readOf, sameKey}
 use Rattle.document.specs.Editions.{entriesOf, document}
@@ -74,8 +75,8 @@ cases =
     ∷ case 2 21 (section "3,2,1000\nwalls=1\nwall=3,1,560,200\nwall=3,1,560,200\nend=1\n")
     ∷ case 2 20 (section "3,2,1000\nwalls=1\nend=1\n")
     -- 1 first; then 2 before 3, 3 before the others, these by rising number; then 10, 8
-    ∷ case 1 0 (replicate 16385 10)
-    ∷ case 2 1 (replicate 16384 10)
+    ∷ case 1 0 (replicate (sheetMost + 1) 10)
+    ∷ case 2 1 (replicate sheetMost 10)
     ∷ case 2 1 (bytes "sheet=9")
     ∷ case 3 1 (bytes "sheet=9\n")
     ∷ case 2 3 (product "1000000000")

@@ -7,7 +7,8 @@ use native.Mathlib.Omega.{arith}
 use lib.ListN.{length, length-map, getD, replicate}
 use lib.IntN.{ℤ, pos}
 use lib.Signed.{leZ, ltZ, _≤ℤ_, _<ℤ_, ltZ-no}
-use Rattle.document.specs.Schema.{Field, Line, Row, at, within, inRanges, fits}
+use Rattle.sheet.specs.Quantities.{Field}
+use Rattle.document.specs.Schema.{Line, Row, at, within, inRanges, fits}
 use Rattle.document.specs.Rules.{Every}
 use Rattle.document.specs.Rows.{first}
 use Rattle.document.specs.Lawful.{In, InRanges}

@@ -12,6 +12,7 @@ use borrow.Author.Tests.{ltb-true, ltb-false}
 use Rattle.sheet.specs.declared.Refusal.{Refusal}
 use Rattle.sheet.specs.declared.Refusal.the-variants.{TooLong, Surplus}
 use Rattle.sheet.specs.Refusals.{number}
+use Rattle.sheet.specs.Quantities.{sheetMost}
 use Rattle.document.specs.Schema.{on}
 use Rattle.document.specs.Reader.{Sheet, Read, stopped, got, readLines, judgedWhole, Refused, Good, readOf}
 use Rattle.document.specs.Editions.{document}
@@ -40,7 +41,7 @@ fault-first s x n a f (ruledOut row h q) = broken a f row h (row-said (a .at .li
 
 pub heard-first : (s : List ℕ) (x : Refusal) (n : ℕ) → readOf document s ≡ Refused x n → First s (number x) n
 unfolding readOf
-heard-first s x n e = here (ltb 16384 (length s)) refl e
+heard-first s x n e = here (ltb sheetMost (length s)) refl e
   where
     wholly : (sheet : Sheet) → AllGood s sheet [] → (o : Option Refusal) → document .whole sheet ≡ o
         → on o (Good sheet) (λ r. Refused r 0) ≡ Refused x n → First s (number x) n
@@ -50,7 +51,7 @@ heard-first s x n e = here (ltb 16384 (length s)) refl e
         let w : n ≡ 0 = cc in
         ofAll w sheet g (whole-said (stagesIn sheet) (sectionsIn sheet) (wallsIn sheet) x (q ∙ ap some z))
 
-    lines : (r : Read Sheet) → readLines document 1 s ≡ r → length s ≤ 16384 → judgedWhole document r ≡ Refused x n → First s (number x) n
+    lines : (r : Read Sheet) → readLines document 1 s ≡ r → length s ≤ sheetMost → judgedWhole document r ≡ Refused x n → First s (number x) n
     lines (stopped y m) q short e =
         let f : readLines document 1 s ≡ stopped x n = q ∙ cc in
         let a = lines-stopped n s x f in
@@ -62,10 +63,10 @@ heard-first s x n e = here (ltb 16384 (length s)) refl e
         surplus (ap number z) short sheet b left (g .0) cc
     lines (got sheet m []) q short e = wholly sheet (good-line s sheet m [] q .0) (document .whole sheet) refl e
 
-    here : (t : Bool) → ltb 16384 (length s) ≡ t → cond t (Refused TooLong 0) (judgedWhole document (readLines document 1 s)) ≡ Refused x n
+    here : (t : Bool) → ltb sheetMost (length s) ≡ t → cond t (Refused TooLong 0) (judgedWhole document (readLines document 1 s)) ≡ Refused x n
         → First s (number x) n
-    here true q e = let z : x ≡ TooLong = cc in let w : n ≡ 0 = cc in tooLong (ap number z) w (ltb-true 16384 (length s) q)
-    here false q e = lines (readLines document 1 s) refl (ltb-false 16384 (length s) q) e
+    here true q e = let z : x ≡ TooLong = cc in let w : n ≡ 0 = cc in tooLong (ap number z) w (ltb-true sheetMost (length s) q)
+    here false q e = lines (readLines document 1 s) refl (ltb-false sheetMost (length s) q) e
 
 -- and it is given exactly then
 pub exactly : (s : List ℕ) (k n : ℕ) → Exactly s k n

@@ -7,8 +7,9 @@ use mathlib.Core.Option.{none}
 use mathlib.Core.Bool.{true}
 use lib.ListN.{length}
 use lib.IntN.{ℤ, pos}
+use Rattle.sheet.specs.Quantities.{to}
 use Rattle.document.specs.Schema.{Line, Row, plain, fits}
-use Rattle.document.specs.Reader.{Filled, Sheet, Rule, Paragraph, one, many, to, countLine, filled, Along, RowsKeep, ParagraphKeeps, ParagraphsKeep, LinesKeep}
+use Rattle.document.specs.Reader.{Filled, Sheet, Rule, Paragraph, one, many, countLine, filled, Along, RowsKeep, ParagraphKeeps, ParagraphsKeep, LinesKeep}
 use Rattle.document.specs.Tests.{free}
 use Rattle.document.specs.Editions.{entriesOf, linesOf, document}
 use Rattle.document.specs.Rows.{editionIn}

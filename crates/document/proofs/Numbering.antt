@@ -14,6 +14,7 @@ use Rattle.sheet.specs.declared.Refusal.{Refusal}
 use Rattle.sheet.specs.declared.Refusal.the-variants.{TooLong}
 use Rattle.sheet.specs.Refusals.{number}
 use Rattle.sheet.proofs.Refusals.{numbered}
+use Rattle.sheet.specs.Quantities.{sheetMost}
 use Rattle.document.specs.Schema.{on, Line, Row, Judged, refused, values, judge, lineText}
 use Rattle.document.specs.Reader.{Sheet, Rule, Paragraph, one, many, countLine, Document, Read, stopped, got, Reader, andThen, judged, readLine, filled, readRows, readParagraph, readParagraphs, readLines, Answer, Refused, Good, judgedWhole, readOf}
 use Rattle.document.specs.Editions.{document}
@@ -80,10 +81,10 @@ lines-reached d n text most h =
 
 -- of an answer
 abbrev Heard : Answer → Type 0
-Heard (Refused x n) = n ≤ 16385
+Heard (Refused x n) = n ≤ sheetMost + 1
 Heard (Good sheet) = Unit {0}
 
-whole-heard : (d : Document) (r : Read Sheet) → Reached 16385 r → Heard (judgedWhole d r)
+whole-heard : (d : Document) (r : Read Sheet) → Reached (sheetMost + 1) r → Heard (judgedWhole d r)
 whole-heard d (stopped r m) h = h
 whole-heard d (got sheet m []) h = here (d .whole sheet)
   where
@@ -94,16 +95,16 @@ whole-heard d (got sheet m (b ∷ bs)) h = omega arith
 
 heard : (d : Document) (text : List ℕ) → Heard (readOf d text)
 unfolding readOf
-heard d text = here (ltb 16384 (length text)) refl
+heard d text = here (ltb sheetMost (length text)) refl
   where
-    here : (t : Bool) → ltb 16384 (length text) ≡ t → Heard (cond t (Refused TooLong 0) (judgedWhole d (readLines d 1 text)))
+    here : (t : Bool) → ltb sheetMost (length text) ≡ t → Heard (cond t (Refused TooLong 0) (judgedWhole d (readLines d 1 text)))
     here true q = omega arith
-    here false q = whole-heard d (readLines d 1 text) (lines-reached d 1 text 16385 (omega (arith, ltb-false 16384 (length text) q)))
+    here false q = whole-heard d (readLines d 1 text) (lines-reached d 1 text (sheetMost + 1) (omega (arith, ltb-false sheetMost (length text) q)))
 
 -- no refusal is number 0, and none names a line beyond the 16,385th
 pub record Refuses (x : Refusal) (n : ℕ) : Type 0 where
   pub named : 0 < number x
-  pub within : n ≤ 16385
+  pub within : n ≤ sheetMost + 1
 
 pub refuses : (text : List ℕ) (x : Refusal) (n : ℕ) → readOf document text ≡ Refused x n → Refuses x n
 refuses text x n e = record { named = numbered x .some; within = subst Heard e (heard document text) }

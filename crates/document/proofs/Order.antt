@@ -15,6 +15,7 @@ use Rattle.sheet.specs.declared.Refusal.{Refusal}
 use Rattle.sheet.specs.declared.Refusal.the-variants.{TooLong, Surplus, Missing, GasTotal}
 use Rattle.sheet.specs.Refusals.{number}
 use Rattle.sheet.specs.Firing.{Stage, Section, Wall}
+use Rattle.sheet.specs.Quantities.{sheetMost}
 use Rattle.document.specs.Schema.{Line, Row, plain, lineText, sound}
 use Rattle.document.specs.Reader.{Sheet, Rule, Paragraph, one, many, countLine, filled, paragraphText, rowsText, sheetText, textOf, behind, soundParagraph, soundParagraphs, Read, stopped, got, readLine, readRows, readParagraph, readParagraphs, readLines, RowsKeep, LinesKeep, readOf}
 use Rattle.document.specs.Tests.{wholeFault}
@@ -104,7 +105,7 @@ lines-stop s d r (inr b) h =
 -- and this is heard
 hears : {s : List ℕ} {r : Refusal} (a : Looked s) → Stops r (a .at) → Hears s (number r) (a .at .number)
 unfolding readOf
-hears {s} {r} a h = record { refusal = r; is = rw (le-ltb 16384 (length s) (a .short), lines-stop s (a .at) r (a .due) h) refl; numbered = refl }
+hears {s} {r} a h = record { refusal = r; is = rw (le-ltb sheetMost (length s) (a .short), lines-stop s (a .at) r (a .due) h) refl; numbered = refl }
 
 -- EVERY LINE THAT IS DUE IS SOUND
 paragraph-sound : (p : Paragraph) (seen : Sheet) (n : ℕ) (s : List ℕ) (d : DueLine) → soundParagraph p ≡ true → InParagraph p seen n s d
@@ -148,11 +149,11 @@ good-read (f ∷ fs) left k =
     let b = paragraphs-text below (f ∷ []) fs (behind (document .first) (f .rows) 1) left (document-sound .below (f ∷ [])) (k .1) in
     rw (append-assoc (paragraphText (document .first) (f .rows)) (sheetText below fs) left, a) b
 
-surplus-heard : (s : List ℕ) → length s ≤ 16384 → (sheet : Sheet) (b : ℕ) (left : List ℕ) → AllGood s sheet (b ∷ left) → Hears s 2 (last sheet)
+surplus-heard : (s : List ℕ) → length s ≤ sheetMost → (sheet : Sheet) (b : ℕ) (left : List ℕ) → AllGood s sheet (b ∷ left) → Hears s 2 (last sheet)
 unfolding readOf
 surplus-heard s short sheet b left g =
     let e : readLines document 1 s ≡ got sheet (last sheet) (b ∷ left) = rw (g .whole) (good-read sheet (b ∷ left) (lines-good sheet .from (g .good))) in
-    record { refusal = Surplus; is = rw (le-ltb 16384 (length s) short, e) refl; numbered = refl }
+    record { refusal = Surplus; is = rw (le-ltb sheetMost (length s) short, e) refl; numbered = refl }
 
 whole-heard : (s : List ℕ) (sheet : Sheet) (r : Refusal) → AllGood s sheet [] → document .whole sheet ≡ some r → Hears s (number r) 0
 unfolding readOf
@@ -160,8 +161,8 @@ whole-heard s sheet r g q =
     let kept = lines-good sheet .from (g .good) in
     let e : readLines document 1 s ≡ got sheet (last sheet) [] = rw (g .whole) (good-read sheet [] kept) in
     let is : s ≡ textOf document sheet = g .whole ∙ append-nil (textOf document sheet) in
-    let short : length s ≤ 16384 = rw is (never-too-long document document-sound sheet kept) in
-    record { refusal = r; is = rw (le-ltb 16384 (length s) short, e, q) refl; numbered = refl }
+    let short : length s ≤ sheetMost = rw is (never-too-long document document-sound sheet kept) in
+    record { refusal = r; is = rw (le-ltb sheetMost (length s) short, e, q) refl; numbered = refl }
 
 -- WHATEVER APPLIES FIRST IS HEARD
 as-said : {s : List ℕ} {i j m n : ℕ} → j ≡ i → n ≡ m → Hears s i m → Hears s j n
@@ -169,7 +170,7 @@ as-said {s = s} {i = i} {n = n} e f h = subst (λ (k : ℕ). Hears s k n) (sym e
 
 pub first-heard : {s : List ℕ} {k n : ℕ} → First s k n → Hears s k n
 unfolding readOf
-first-heard {s} (tooLong e f h) = as-said e f (record { refusal = TooLong; is = rw (lt-ltb 16384 (length s) h) refl; numbered = refl })
+first-heard {s} (tooLong e f h) = as-said e f (record { refusal = TooLong; is = rw (lt-ltb sheetMost (length s) h) refl; numbered = refl })
 first-heard (unformed e a f n) = as-said e f (with-number a (unsaid-stops (a .at) n))
 first-heard {s} (outside e a f row h n) = as-said e f (with-number a (outside-stops (a .at) (due-sound s (a .at) (a .due)) row h n))
 first-heard {s} {k} (broken a f row h fault) =

@@ -18,7 +18,8 @@ use Rattle.text.specs.Scanning.{count}
 use Rattle.text.proofs.Scanning.{count-append}
 use Rattle.text.proofs.Decimal.{digits-one, digits-more, by-digits}
 use Rattle.text.proofs.Reading.{read-back, only-text, only-small}
-use Rattle.document.specs.Schema.{Field, joined, within, inRanges, nine, nines, push, pieces, onNumber, onNumbers, Numbers, none-at, all-are, numbersOf, outsideOf}
+use Rattle.sheet.specs.Quantities.{Field}
+use Rattle.document.specs.Schema.{joined, within, inRanges, nine, nines, push, pieces, onNumber, onNumbers, Numbers, none-at, all-are, numbersOf, outsideOf}
 use Rattle.document.specs.Rules.{Every}
 use Rattle.document.proofs.Cases.{clash, both}
 

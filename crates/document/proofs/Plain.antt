@@ -11,7 +11,7 @@ use borrow.Author.Tests.{le-leb}
 use Rattle.sheet.specs.Firing.{Stuff, Stage, Setter, Part, Section, Wall, Firing}
 use Rattle.document.specs.Schema.{Line, Row, plain, inRanges, fits}
 use Rattle.document.specs.Reader.{Sheet, Paragraph, one, many, keyOf, countLine, RowsKeep, ParagraphKeeps, ParagraphsKeep, Keeps}
-use Rattle.document.specs.Quantities.{material, capacity, stagesMost, settersMost, partsMost, sectionsMost, wallsMost}
+use Rattle.sheet.specs.Quantities.{material, capacity, stagesMost, settersMost, partsMost, sectionsMost, wallsMost}
 use Rattle.document.specs.Tests.{free}
 use Rattle.document.specs.Entries.{Entry, paragraphsOf, fill}
 use Rattle.document.specs.Document01.{opening, sheetLine, firingLine, productLine, ambientLine, fuelLine, gasLine, airLine, wareLine, waterLine, clayLine, stageLine, setterLine, partLine, sectionLine, wallLine, endLine}

@@ -7,6 +7,7 @@ use native.Mathlib.Omega.{arith}
 use lib.ListN.{length}
 use lib.IntN.{ℤ, pos, natAbs}
 use Rattle.sheet.specs.Firing.{Section, Wall}
+use Rattle.sheet.specs.Quantities.{wallsMost}
 use Rattle.document.specs.Reader.{Sheet, Good, readOf}
 use Rattle.document.specs.Editions.{document}
 use Rattle.document.specs.Rules.{Some, Every, NoTwo, SameNumber}
@@ -67,7 +68,7 @@ as-many n (r ∷ rs) ws d h =
 
 -- 8 is always said where sections times stages pass 48
 pub readings-most : (text : List ℕ) (sheet : Sheet) → readOf document text ≡ Good sheet
-    → length (firingOf sheet .sections) * length (firingOf sheet .stages) ≤ 48
+    → length (firingOf sheet .sections) * length (firingOf sheet .stages) ≤ wallsMost
 readings-most text sheet e =
     let f = firingOf sheet in
     let r = firing-lawful text sheet e in

@@ -10,7 +10,7 @@ use lib.Seq.{drop-cons}
 use lib.IntN.{ℤ, pos}
 use Rattle.sheet.specs.Firing.{Firing}
 use Rattle.document.specs.Schema.{Line, Row, plain, at, inRanges, fits, within}
-use Rattle.document.specs.Quantities.{closing}
+use Rattle.sheet.specs.Quantities.{closing}
 use Rattle.document.specs.Document01.{endLine}
 use Rattle.document.specs.Editions.{entriesOf, sheetOf}
 use Rattle.document.specs.Rules.{Every}

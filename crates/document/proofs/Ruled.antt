@@ -7,9 +7,9 @@ use mathlib.Core.Bool.{Bool, true, _&&_}
 use Rattle.text.specs.Bytes.{bytes}
 use Rattle.sheet.specs.declared.Refusal.{Refusal}
 use Rattle.sheet.specs.Firing.{Wall}
-use Rattle.document.specs.Schema.{Field, Row, at}
+use Rattle.document.specs.Schema.{Row, at}
 use Rattle.document.specs.Reader.{Sheet, rowsOf, Paragraph, many, lineOf, ruleOf, keyOf, filled}
-use Rattle.document.specs.Quantities.{wallsMost}
+use Rattle.sheet.specs.Quantities.{wallsMost, Field}
 use Rattle.document.specs.Tests.{wallFault, wall-rule}
 use Rattle.document.specs.Entries.{line}
 use Rattle.document.specs.Document01.{sectionLine, sections}

@@ -20,7 +20,7 @@ use Rattle.sheet.specs.Firing.{Stage, Section, Wall}
 use Rattle.sheet.specs.Block.{sum, totalGas}
 use Rattle.document.specs.Schema.{Row, at, within}
 use Rattle.document.specs.Reader.{Sheet}
-use Rattle.document.specs.Quantities.{gasTotal}
+use Rattle.sheet.specs.Quantities.{gasTotal}
 use Rattle.document.specs.Tests.{alike, any, all, weigh, airWeights, counted, isListed, isRead, when, _else_, material-rule, gas-rule, sectionFault, wallFault, wholeFault}
 use Rattle.document.specs.Rules.{Some, Every, MaterialKeeps, GasKeeps, SameNumber, Listed, Staged, SameReading, WallKeeps, IsRead, AllRead, TotalKeeps}
 use Rattle.document.specs.Order.{WallFault, elsewhere, twice, colder, WholeFault, total, missing}

@@ -12,8 +12,9 @@ use lib.Signed.{leZ}
 use borrow.Author.Tests.{leb-true}
 use Rattle.text.specs.Decimal.{decimal}
 use Rattle.text.proofs.Decimal.{sheet-width}
-use Rattle.document.specs.Schema.{Field, Line, Row, joined, bodyText, lineText, within, inRanges, fits, nine, nines, sound}
-use Rattle.document.specs.Reader.{Filled, Sheet, Rule, Paragraph, one, many, to, Document, soundParagraph, soundParagraphs, lineSize, paragraphSize, paragraphsSize, Sound, countLine, rowsText, paragraphText, sheetText, textOf, RowsKeep, ParagraphKeeps, ParagraphsKeep, LinesKeep}
+use Rattle.sheet.specs.Quantities.{Field, to, sheetMost}
+use Rattle.document.specs.Schema.{Line, Row, joined, bodyText, lineText, within, inRanges, fits, nine, nines, sound}
+use Rattle.document.specs.Reader.{Filled, Sheet, Rule, Paragraph, one, many, Document, soundParagraph, soundParagraphs, lineSize, paragraphSize, paragraphsSize, Sound, countLine, rowsText, paragraphText, sheetText, textOf, RowsKeep, ParagraphKeeps, ParagraphsKeep, LinesKeep}
 use Rattle.document.proofs.Cases.{clash, both}
 use Rattle.document.proofs.Pieces.{within-small}
 use Rattle.document.proofs.Judged.{is-sound, is-fit, line-length}
@@ -87,11 +88,11 @@ paragraphs-most (p ∷ ps) seen (f ∷ fs) s h =
     )
 
 -- THE LAW
-pub never-too-long : (d : Document) → Sound d → (sheet : Sheet) → LinesKeep d sheet → length (textOf d sheet) ≤ 16384
+pub never-too-long : (d : Document) → Sound d → (sheet : Sheet) → LinesKeep d sheet → length (textOf d sheet) ≤ sheetMost
 unfolding textOf
 never-too-long d s [] h = absurd h
 never-too-long d s (f ∷ fs) h =
     let a = paragraph-most (d .first) [] f (s .first) (h .0) in
     let b = paragraphs-most (d .below (f ∷ [])) (f ∷ []) fs (s .below (f ∷ [])) (h .1) in
-    let m = leb-true (paragraphSize (d .first) + paragraphsSize (d .below (f ∷ []))) 16384 (s .small (f ∷ [])) in
+    let m = leb-true (paragraphSize (d .first) + paragraphsSize (d .below (f ∷ []))) sheetMost (s .small (f ∷ [])) in
     omega (arith, a, b, m, length-append (paragraphText (d .first) (f .rows)) (sheetText (d .below (f ∷ [])) fs))

@@ -14,9 +14,9 @@ use Rattle.text.specs.Scanning.{upTo, begins}
 use Rattle.sheet.specs.declared.Refusal.{Refusal}
 use Rattle.sheet.specs.declared.Refusal.the-variants.{NoLineFeed, WrongKey, WrongCount, NotANumber, Outside}
 use Rattle.sheet.specs.Refusals.{number}
-use Rattle.document.specs.Schema.{on, Field, Line, Row, plain, lineText, bodyText, within, inRanges, fits, nines, sound, Judged, refused, values, unless, Numbers, none-at, all-are, onNumbers, pieces, numbersOf, formedBy, formed, outsideOf, ranged, judge}
+use Rattle.document.specs.Schema.{on, Line, Row, plain, lineText, bodyText, within, inRanges, fits, nines, sound, Judged, refused, values, unless, Numbers, none-at, all-are, onNumbers, pieces, numbersOf, formedBy, formed, outsideOf, ranged, judge}
 use Rattle.document.specs.Reader.{stopped, got, judged, readLine}
-use Rattle.document.specs.Quantities.{minus}
+use Rattle.sheet.specs.Quantities.{minus, Field}
 use Rattle.document.specs.Rules.{Every}
 use Rattle.document.specs.Lawful.{InRanges}
 use Rattle.document.specs.Order.{DueLine, Says, SaysIn}

@@ -7,6 +7,7 @@ use lib.ListN.{length}
 use lib.Dec.{ltb}
 use borrow.Author.Tests.{le-ltb}
 use Rattle.sheet.specs.declared.Refusal.the-variants.{TooLong}
+use Rattle.sheet.specs.Quantities.{sheetMost}
 use Rattle.document.specs.Reader.{Sheet, Document, Sound, paragraphText, sheetText, textOf, Read, stopped, got, readParagraph, readParagraphs, readLines, behind, Refused, Good, judgedWhole, readOf, LinesKeep, Keeps}
 use Rattle.document.proofs.Cases.{clash, on-none, andThen-got}
 use Rattle.document.proofs.Blocks.{followed, paragraph-text, paragraph-got, paragraphs-text, paragraphs-got}
@@ -20,7 +21,7 @@ accepted d s (f ∷ fs) k =
     let a = paragraph-text (d .first) [] f 1 (sheetText (d .below (f ∷ [])) fs) (s .first) (k .lines .0) in
     let b = paragraphs-text (d .below (f ∷ [])) (f ∷ []) fs (behind (d .first) (f .rows) 1) [] (s .below (f ∷ [])) (k .lines .1) in
     let c = rw append-nil at b in
-    let short = le-ltb 16384 (length (textOf d (f ∷ fs))) (never-too-long d s (f ∷ fs) (k .lines)) in
+    let short = le-ltb sheetMost (length (textOf d (f ∷ fs))) (never-too-long d s (f ∷ fs) (k .lines)) in
     rw (short, a, c, k .whole)
 
 -- EVERY ACCEPTED TEXT is the text of the sheet that was read, and this sheet keeps the rules
@@ -48,7 +49,7 @@ lines-got d sheet text n rest e =
 
 pub kept : (d : Document) (text : List ℕ) (sheet : Sheet) → readOf d text ≡ Good sheet → Accepted d text sheet
 unfolding readOf
-kept d text sheet e = here (ltb 16384 (length text)) e
+kept d text sheet e = here (ltb sheetMost (length text)) e
   where
     lines : (r : Read Sheet) → readLines d 1 text ≡ r → judgedWhole d r ≡ Good sheet → Accepted d text sheet
     lines (stopped x n) q e = clash cc

@@ -8,7 +8,8 @@ use lib.ListN.{length}
 use lib.Dec.{leb, eqb}
 use lib.IntN.{pos}
 use Rattle.sheet.specs.declared.Refusal.{Refusal}
-use Rattle.document.specs.Schema.{Field, Line, Row, plain, lineText, sound}
+use Rattle.sheet.specs.Quantities.{Field, to, sheetMost}
+use Rattle.document.specs.Schema.{Line, Row, plain, lineText, sound}
 
 -- A SHEET: under each line's key the rows read, in the order of the sheet
 pub record Filled : Type 0 where
@@ -48,10 +49,6 @@ ruleOf (many key a b l rule) = rule
 abbrev pub keyOf : Paragraph → List ℕ
 keyOf p = lineOf p .key
 
--- from a to b, both whole numbers
-abbrev pub to : ℕ → ℕ → Field
-to a b = record { least = pos a; greatest = pos b }
-
 abbrev pub countLine : List ℕ → ℕ → ℕ → Line
 countLine key a b = record { key = key; fields = to a b ∷ [] }
 
@@ -85,7 +82,7 @@ paragraphsSize (p ∷ ps) = paragraphSize p + paragraphsSize ps
 pub record Sound (d : Document) : Type 0 where
   pub first : soundParagraph (d .first) ≡ true
   pub below : (seen : Sheet) → soundParagraphs (d .below seen) ≡ true
-  pub small : (seen : Sheet) → leb (paragraphSize (d .first) + paragraphsSize (d .below seen)) 16384 ≡ true
+  pub small : (seen : Sheet) → leb (paragraphSize (d .first) + paragraphsSize (d .below seen)) sheetMost ≡ true
 
 -- THE TEXT OF A SHEET
 unfoldable pub rowsText : Line → List Row → List ℕ

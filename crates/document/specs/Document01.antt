@@ -3,7 +3,7 @@ use mathlib.Core.List.{List, [], _∷_, map}
 use lib.ListN.{replicate}
 use lib.IntN.{pos}
 use Rattle.document.specs.Schema.{Line, plain}
-use Rattle.document.specs.Quantities.{edition, firing, product, ambient, heating, fuelTemperature, share, moisture, mass, temperature, material, capacity, flue, cubicMetres, excess, monoxide, minutes, sectionNumber, place, area, stageNumber, surface, nearAir, closing, stagesMost, settersMost, partsMost, sectionsMost, wallsMost}
+use Rattle.sheet.specs.Quantities.{edition, firing, product, ambient, heating, fuelTemperature, share, moisture, mass, temperature, material, capacity, flue, cubicMetres, excess, monoxide, minutes, sectionNumber, place, area, stageNumber, surface, nearAir, closing, stagesMost, settersMost, partsMost, sectionsMost, wallsMost, gases, stagesLeast, sectionsLeast}
 use Rattle.document.specs.Rows.{fuelRow, gasRow, wareRow, waterRow, stageRow, setterRow, partRow, sectionRow, wallRow}
 use Rattle.document.specs.Tests.{free, material-rule, gas-rule, section-rule, wall-rule}
 use Rattle.document.specs.Entries.{line, Entry, single, figure, block}
@@ -25,7 +25,7 @@ abbrev pub fuelLine : Line
 fuelLine = line "fuel" (heating ∷ fuelTemperature ∷ [])
 
 abbrev pub gasLine : Line
-gasLine = line "gas" (replicate 13 share)
+gasLine = line "gas" (replicate gases share)
 
 abbrev pub airLine : Line
 airLine = line "air" (moisture ∷ [])
@@ -59,7 +59,7 @@ endLine = line "end" (closing ∷ [])
 
 -- THE BLOCKS: a count line, and so many lines
 abbrev pub stages : Entry
-stages = block "stages" 1 stagesMost stageLine free (λ f. map stageRow (f .stages))
+stages = block "stages" stagesLeast stagesMost stageLine free (λ f. map stageRow (f .stages))
 
 abbrev pub setters : Entry
 setters = block "setters" 0 settersMost setterLine (material-rule 2) (λ f. map setterRow (f .setters))
@@ -68,7 +68,7 @@ abbrev pub parts : Entry
 parts = block "parts" 0 partsMost partLine (material-rule 1) (λ f. map partRow (f .parts))
 
 abbrev pub sections : Entry
-sections = block "sections" 1 sectionsMost sectionLine section-rule (λ f. map sectionRow (f .sections))
+sections = block "sections" sectionsLeast sectionsMost sectionLine section-rule (λ f. map sectionRow (f .sections))
 
 abbrev pub walls : Entry
 walls = block "walls" 0 wallsMost wallLine wall-rule (λ f. map wallRow (f .walls))

@@ -5,7 +5,8 @@ use mathlib.Core.List.{List, [], _∷_, map}
 use lib.IntN.{ℤ}
 use Rattle.text.specs.Bytes.{bytes}
 use Rattle.sheet.specs.Firing.{Firing}
-use Rattle.document.specs.Schema.{Field, Line, Row, plain}
+use Rattle.sheet.specs.Quantities.{Field}
+use Rattle.document.specs.Schema.{Line, Row, plain}
 use Rattle.document.specs.Reader.{Filled, Rule, Paragraph, one, many, keyOf}
 use Rattle.document.specs.Tests.{free}
 

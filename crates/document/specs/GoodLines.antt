@@ -6,8 +6,9 @@ use mathlib.Core.List.{List, [], _∷_, _++_}
 use lib.ListN.{length}
 use lib.IntN.{pos}
 use Rattle.text.specs.Bytes.{bytes}
+use Rattle.sheet.specs.Quantities.{to}
 use Rattle.document.specs.Schema.{Line, Row}
-use Rattle.document.specs.Reader.{Filled, Sheet, Paragraph, one, many, to, filled, Document, Along}
+use Rattle.document.specs.Reader.{Filled, Sheet, Paragraph, one, many, filled, Document, Along}
 use Rattle.document.specs.Rows.{sectionOf, editionIn, stagesIn, sectionsIn, wallAs, wallsIn}
 use Rattle.document.specs.Rules.{Some, MaterialKeeps, GasKeeps, SameNumber, WallKeeps}
 use Rattle.document.specs.Lawful.{In, InRanges}

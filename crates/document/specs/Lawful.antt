@@ -8,8 +8,7 @@ use lib.IntN.{ℤ, pos}
 use lib.Signed.{_≤ℤ_, _<ℤ_}
 use Rattle.sheet.specs.Firing.{Stuff, Gas, Ware, Water, Stage, Setter, Part, Section, Wall, Firing}
 use Rattle.sheet.specs.Block.{sum, totalGas}
-use Rattle.document.specs.Schema.{Field}
-use Rattle.document.specs.Quantities.{edition, firing, product, ambient, heating, fuelTemperature, share, moisture, mass, temperature, material, capacity, flue, cubicMetres, excess, monoxide, minutes, sectionNumber, place, area, stageNumber, surface, nearAir, gasTotal, stagesMost, settersMost, partsMost, sectionsMost, wallsMost}
+use Rattle.sheet.specs.Quantities.{edition, firing, product, ambient, heating, fuelTemperature, share, moisture, mass, temperature, material, capacity, flue, cubicMetres, excess, monoxide, minutes, sectionNumber, place, area, stageNumber, surface, nearAir, gasTotal, stagesMost, settersMost, partsMost, sectionsMost, wallsMost, Field, stagesLeast, sectionsLeast}
 use Rattle.document.specs.Tests.{weigh, airWeights}
 use Rattle.document.specs.Rules.{Every, NoTwo, OwnHeat, SameNumber, Listed, SameReading, AllRead}
 use Rattle.document.specs.Rows.{gasRow}
@@ -94,7 +93,7 @@ pub record Lawful (f : Firing) : Type 0 where
   pub water : WaterIn (f .water)
   pub clay : In mass (f .clay)
   pub stages : Every StageIn (f .stages)
-  pub stagesSome : 1 ≤ length (f .stages)
+  pub stagesSome : stagesLeast ≤ length (f .stages)
   pub stagesMost : length (f .stages) ≤ stagesMost
   pub total : In gasTotal (totalGas (f .stages))  -- 10
   pub setters : Every SetterIn (f .setters)
@@ -102,7 +101,7 @@ pub record Lawful (f : Firing) : Type 0 where
   pub parts : Every PartIn (f .parts)
   pub partsMost : length (f .parts) ≤ partsMost
   pub sections : Every SectionIn (f .sections)
-  pub sectionsSome : 1 ≤ length (f .sections)
+  pub sectionsSome : sectionsLeast ≤ length (f .sections)
   pub sectionsMost : length (f .sections) ≤ sectionsMost
   pub numbered : NoTwo SameNumber (f .sections)  -- 6
   pub walls : Every (WallIn f) (f .walls)

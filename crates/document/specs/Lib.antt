@@ -1,7 +1,6 @@
 pub mod Schema
 pub mod Document
 pub mod Reader
-pub mod Quantities
 pub mod Rows
 pub mod Tests
 pub mod Entries

@@ -11,8 +11,9 @@ use Rattle.text.specs.Bytes.{bytes}
 use Rattle.sheet.specs.declared.Refusal.{Refusal}
 use Rattle.sheet.specs.Refusals.{number}
 use Rattle.sheet.specs.Firing.{Stage, Section, Wall}
+use Rattle.sheet.specs.Quantities.{to, sheetMost}
 use Rattle.document.specs.Schema.{Line, Row, plain, lineText}
-use Rattle.document.specs.Reader.{Filled, Sheet, Paragraph, one, many, to, countLine, filled, paragraphText, rowsText, textOf, behind, behindAll, Refused, readOf}
+use Rattle.document.specs.Reader.{Filled, Sheet, Paragraph, one, many, countLine, filled, paragraphText, rowsText, textOf, behind, behindAll, Refused, readOf}
 use Rattle.document.specs.Editions.{document}
 use Rattle.document.specs.Rows.{sectionOf, editionIn, stagesIn, sectionsIn, wallAs, wallsIn}
 use Rattle.document.specs.Rules.{Some, Every, MaterialKeeps, GasKeeps, SameNumber, Listed, Staged, SameReading, AllRead, TotalKeeps}
@@ -74,7 +75,7 @@ pub record SaysIn (d : DueLine) (row : Row) : Type 0 where
 
 -- A LINE OF A TEXT that is looked at
 pub record Looked (s : List ℕ) : Type 0 where
-  pub short : length s ≤ 16384
+  pub short : length s ≤ sheetMost
   pub at : DueLine
   pub due : Due s at
 
@@ -110,13 +111,13 @@ last (f ∷ fs) = behindAll (document .below (f ∷ [])) fs (behind (document .f
 
 -- THE FIRST REFUSAL THAT APPLIES to a text is number k, at line n
 pub data First (s : List ℕ) (k n : ℕ) : Type 0 where
-  tooLong : k ≡ 1 → n ≡ 0 → 16384 < length s → First s k n
+  tooLong : k ≡ 1 → n ≡ 0 → sheetMost < length s → First s k n
   -- the lines from the top: a line is due, and ..
   unformed : k ≡ 2 → (a : Looked s) → n ≡ a .at .number → ((row : Row) → ¬ Says (a .at) row) → First s k n
   outside : k ≡ 3 → (a : Looked s) → n ≡ a .at .number → (row : Row) → Says (a .at) row → ¬ InRanges (a .at .line .fields) (row .numbers) → First s k n
   broken : (a : Looked s) → n ≡ a .at .number → (row : Row) → SaysIn (a .at) row → RowFault (a .at .line .key) (a .at .above) row k → First s k n
   -- all lines are good, and bytes follow `end`; or nothing follows
-  surplus : k ≡ 2 → length s ≤ 16384 → (sheet : Sheet) (b : ℕ) (left : List ℕ) → AllGood s sheet (b ∷ left) → n ≡ last sheet → First s k n
+  surplus : k ≡ 2 → length s ≤ sheetMost → (sheet : Sheet) (b : ℕ) (left : List ℕ) → AllGood s sheet (b ∷ left) → n ≡ last sheet → First s k n
   ofAll : n ≡ 0 → (sheet : Sheet) → AllGood s sheet [] → WholeFault (stagesIn sheet) (sectionsIn sheet) (wallsIn sheet) k → First s k n
 
 -- what is said to a text: a refusal with this number and this line

@@ -9,8 +9,9 @@ use lib.Dec.{ltb}
 use lib.IntN.{pos, natAbs}
 use Rattle.sheet.specs.declared.Refusal.{Refusal}
 use Rattle.sheet.specs.declared.Refusal.the-variants.{TooLong, Surplus}
+use Rattle.sheet.specs.Quantities.{sheetMost}
 use Rattle.document.specs.Schema.{on, Line, Row, plain, fits, Judged, refused, values, judge}
-pub use Rattle.document.specs.Document.{Filled, Sheet, sameKey, rowsOf, Rule, Paragraph, one, many, lineOf, ruleOf, keyOf, to, countLine, Document, soundParagraph, soundParagraphs, lineSize, paragraphSize, paragraphsSize, Sound, paragraphText}
+pub use Rattle.document.specs.Document.{Filled, Sheet, sameKey, rowsOf, Rule, Paragraph, one, many, lineOf, ruleOf, keyOf, countLine, Document, soundParagraph, soundParagraphs, lineSize, paragraphSize, paragraphsSize, Sound, paragraphText}
 unfoldable pub use Rattle.document.specs.Document.{rowsText, sheetText, textOf}
 
 -- READING: what was read, the number of the line that follows, and the text that is left; or a refusal with its line
@@ -82,7 +83,7 @@ judgedWhole d (got sheet n []) = on (d .whole sheet) (Good sheet) (λ r. Refused
 judgedWhole d (got sheet n (b ∷ bs)) = Refused Surplus n
 
 unfoldable pub readOf : Document → List ℕ → Answer
-readOf d text = cond (ltb 16384 (length text)) (Refused TooLong 0) (judgedWhole d (readLines d 1 text))
+readOf d text = cond (ltb sheetMost (length text)) (Refused TooLong 0) (judgedWhole d (readLines d 1 text))
 
 -- the number of the line behind a paragraph that begins at line n, and behind all paragraphs
 abbrev pub behind : Paragraph → List Row → ℕ → ℕ

@@ -11,7 +11,7 @@ use Rattle.sheet.specs.Firing.{Stage, Section, Wall}
 use Rattle.sheet.specs.Block.{sum, totalGas}
 use Rattle.document.specs.Schema.{Row, at}
 use Rattle.document.specs.Reader.{Sheet, rowsOf}
-use Rattle.document.specs.Quantities.{gasTotal}
+use Rattle.sheet.specs.Quantities.{gasTotal}
 use Rattle.document.specs.Tests.{weigh, airWeights}
 use Rattle.document.specs.Rows.{stagesIn, sectionsIn, wallsIn}
 

@@ -15,12 +15,9 @@ use Rattle.text.specs.Number.{numberOf}
 use Rattle.text.specs.Scanning.{upTo, count, begins}
 use Rattle.sheet.specs.declared.Refusal.{Refusal}
 use Rattle.sheet.specs.declared.Refusal.the-variants.{NoLineFeed, WrongKey, WrongCount, NotANumber, Outside}
+use Rattle.sheet.specs.Quantities.{Field}
 
--- A field has a least and a greatest value; a line has a key and fields.
-pub record Field : Type 0 where
-  pub least : ℤ
-  pub greatest : ℤ
-
+-- A line has a key and fields.
 pub record Line : Type 0 where
   pub key : List ℕ
   pub fields : List Field

@@ -13,7 +13,7 @@ use Rattle.sheet.specs.Firing.{Stage, Section, Wall}
 use Rattle.sheet.specs.Block.{sum, totalGas}
 use Rattle.document.specs.Schema.{at, within}
 use Rattle.document.specs.Reader.{Sheet, Rule}
-use Rattle.document.specs.Quantities.{gasTotal}
+use Rattle.sheet.specs.Quantities.{gasTotal}
 use Rattle.document.specs.Rows.{sectionOf, editionIn, stagesIn, sectionsIn, wallAs, wallsIn}
 
 abbrev pub any : {A : Type 0} → (A → Bool) → List A → Bool

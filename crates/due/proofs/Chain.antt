@@ -5,9 +5,10 @@ use mathlib.Core.List.{List, [], _∷_, _++_}
 use native.Mathlib.Omega.{arith}
 use lib.ListN.{length, getD, replicate}
 use lib.IntN.{ℤ, pos}
+use Rattle.sheet.specs.Quantities.{Field}
 use Rattle.limits.specs.declared.Number.{Number}
 use Rattle.limits.specs.Checked.{Measured, inRange}
-use Rattle.document.specs.Schema.{Field, Row, plain}
+use Rattle.document.specs.Schema.{Row, plain}
 use Rattle.due.specs.Taking.{from, heldTo, Taken}
 use Rattle.due.proofs.Ranges.{chained, chained-first, held-clean}
 

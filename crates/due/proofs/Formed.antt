@@ -13,6 +13,7 @@ use borrow.Author.Tests.{ne-eqb, ltb-true}
 use Rattle.limits.specs.declared.Number.{Number}
 use Rattle.text.specs.Scanning.{upTo}
 use Rattle.sheet.proofs.Refusals.{numbered}
+use Rattle.sheet.specs.Quantities.{fieldsMost}
 use Rattle.document.specs.Schema.{Row, Judged, refused, values, formedBy}
 use Rattle.document.specs.Reader.{judged}
 use Rattle.form.specs.declared.Formed.{Formed}
@@ -42,7 +43,7 @@ from-at xs (z ∷ zs) ys =
     let r : fromℤ (suc (length xs)) (length zs) (xs ++ (z ∷ (zs ++ ys))) ≡ zs = rw (n, append-snoc) at t in
     rw (h, r)
 
-from-row : (v : List Number) (zs : List ℤ) (n : ℕ) → n ≤ 13 → length zs ≡ n → plainNumbers v ≡ sets zeros 0 zs → from 0 n v ≡ zs
+from-row : (v : List Number) (zs : List ℤ) (n : ℕ) → n ≤ fieldsMost → length zs ≡ n → plainNumbers v ≡ sets zeros 0 zs → from 0 n v ≡ zs
 from-row v zs n h e q =
     let k : 0 + length zs ≤ length zeros = omega arith in
     rw (← e, from-plain v 0 (length zs), q, sets-eq zs zeros 0 k) (from-at [] zs (drop (0 + length zs) zeros))
@@ -95,7 +96,7 @@ module _ (s : List ℕ) (p : Place) (key : List ℕ) (n : ℕ) (r : Ready s p) (
       record { after = rw e (record { reads = λ x. c .0; passes = λ x. not-both (good p) yes x; fair = λ x. c .1 }); whole = line-values l e }
 
 -- the numbers taken out of the array
-pub due-form : (s : List ℕ) (p : Place) (key : List ℕ) (n : ℕ) (q : Place) (v : List ℤ) (w : List Number) → n ≤ 13 → plainNumbers w ≡ v
+pub due-form : (s : List ℕ) (p : Place) (key : List ℕ) (n : ℕ) (q : Place) (v : List ℤ) (w : List Number) → n ≤ fieldsMost → plainNumbers w ≡ v
     → FormAfter s p key n q v
     → After s p (readForm key n) q (λ row. from 0 n w ≡ row .numbers)
 due-form s p key n q v w h e a =

@@ -8,8 +8,9 @@ use mathlib.Core.Option.{some}
 use native.Mathlib.Omega.{arith}
 use lib.Dec.{eqb·suc-zero}
 use lib.IntN.{ℤ}
+use Rattle.sheet.specs.Quantities.{Field}
 use Rattle.limits.specs.Checked.{inRange, firstFault, Measured}
-use Rattle.document.specs.Schema.{Field, within, outsideOf, on}
+use Rattle.document.specs.Schema.{within, outsideOf, on}
 use Rattle.due.specs.Taking.{faultOf, heldTo}
 
 -- the fault after some fields, with the fault before them

@@ -8,6 +8,7 @@ use lib.Dec.{eqb}
 use Rattle.sheet.specs.declared.Refusal.{Refusal}
 use Rattle.sheet.specs.declared.Refusal.the-variants.{Outside}
 use Rattle.sheet.specs.Refusals.{number, field}
+use Rattle.sheet.specs.Quantities.{sheetMost}
 use Rattle.document.specs.Reader.{Read, stopped, got, Reader}
 use Rattle.due.specs.declared.Place.{Place}
 
@@ -30,7 +31,7 @@ pub record Fair (s : List ℕ) (p : Place) : Type 0 where
 
 -- what is asked of a place from which something is read
 pub record Ready (s : List ℕ) (p : Place) : Type 0 where
-  pub short : length s ≤ 16384
+  pub short : length s ≤ sheetMost
   pub fair : good p ≡ true → Fair s p
 
 -- a place stands before a rest of the text, in line n, and nothing was refused

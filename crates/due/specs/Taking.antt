@@ -8,7 +8,8 @@ use lib.IntN.{ℤ, pos}
 use Rattle.limits.specs.declared.Number.{Number}
 use Rattle.sheet.specs.Firing.{Stuff}
 use Rattle.sheet.specs.Shown.{same}
-use Rattle.document.specs.Schema.{Field, within}
+use Rattle.sheet.specs.Quantities.{Field}
+use Rattle.document.specs.Schema.{within}
 use Rattle.document.specs.Tests.{alike}
 
 abbrev pub plainNumbers : List Number → List ℤ

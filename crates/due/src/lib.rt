@@ -2,11 +2,13 @@
 pub mod stuff;
 
 use limits::Number;
+use sheet::FIELDS_MOST;
 use sheet::Refusal;
 ghost use mathlib.Core.Path.{_≡_};
 ghost use mathlib.Core.Bool.{true};
 ghost use Prim.Native.Nat.{_+_, _≤_};
 ghost use lib.ListN.{length};
+ghost use Rattle.sheet.specs.Quantities.{fieldsMost, sheetMost};
 ghost use Rattle.form.specs.Formed.{zeros};
 ghost use Rattle.form.specs.Fields.{Keyed};
 ghost use Rattle.due.specs.Place.{good, goingOn, refusedAt, Ready, ranged as rangedPlace, ruled as ruledPlace};
@@ -26,7 +28,7 @@ pub struct Place {
 // The numbers of the line that was due, and the place after it.
 pub struct LineDue {
     pub place: Place,
-    pub values: [Number; 13],
+    pub values: [Number; FIELDS_MOST],
 }
 
 // The place of a refusal.
@@ -43,7 +45,7 @@ pub fn refused(why: Refusal, line: usize) -> Place
 
 // The place before the line after this one, which begins there.
 fn onward(line: usize, at: usize) -> Place
-    requires { ⌜ line ≤ 16385 ⌝ }
+    requires { ⌜ line ≤ sheetMost + 1 ⌝ }
     ensures { λ r. ⌜ r ≡ goingOn line at ⌝ }
 {
     Place {
@@ -55,23 +57,23 @@ fn onward(line: usize, at: usize) -> Place
 }
 
 // Lays numbers into an array that is lent.
-fn lay(numbers: [i64; 13], v: &mut [i64; 13])
-    requires { ⌜ length (now v) ≡ 13 ⌝ }
+fn lay(numbers: [i64; FIELDS_MOST], v: &mut [i64; FIELDS_MOST])
+    requires { ⌜ length (now v) ≡ fieldsMost ⌝ }
     ensures { λ _. ⌜ now (v .exit) ≡ numbers ⌝ }
 {
     let mut i = 0;
-    while i < 13 {
+    while i < FIELDS_MOST {
         v[i] = numbers[i];
         i += 1;
     }
 }
 
 // Reads a line that is not plainly in form, or names its fault and leaves zeros.
-fn careful(s: &[u8], p: Place, key: &[u8], n: usize, v: &mut [i64; 13]) -> Place
-    requires { ⌜ n ≤ 13 ⌝ }
+fn careful(s: &[u8], p: Place, key: &[u8], n: usize, v: &mut [i64; FIELDS_MOST]) -> Place
+    requires { ⌜ n ≤ fieldsMost ⌝ }
     requires { ⌜ Ready (now s) p ⌝ }
     requires { ⌜ good p ≡ true ⌝ }
-    requires { ⌜ length (now v) ≡ 13 ⌝ }
+    requires { ⌜ length (now v) ≡ fieldsMost ⌝ }
     ensures { λ r. ⌜ FormAfter (now (s .entry)) p (now (key .entry)) n r (now (v .exit)) ⌝ }
 {
     let l = form::judged(s, p.at, key, n);
@@ -98,9 +100,9 @@ pub fn read_form(
     key: &[u8],
     behind: usize,
     n: usize,
-    v: &mut [i64; 13],
+    v: &mut [i64; FIELDS_MOST],
 ) -> Place
-    requires { ⌜ n ≤ 13 ⌝ }
+    requires { ⌜ n ≤ fieldsMost ⌝ }
     requires { ⌜ Ready (now s) p ⌝ }
     requires { ⌜ ((behind ≡ 0 → ⊥) → Keyed (now s) (p .at) (now key) × (behind ≡ p .at + length (now key))) ⌝ }
     requires { ⌜ now v ≡ zeros ⌝ }
@@ -119,12 +121,12 @@ pub fn read_form(
 }
 
 // The numbers of a line as numbers of the sheet.
-pub fn numbers(v: [i64; 13]) -> [Number; 13]
+pub fn numbers(v: [i64; FIELDS_MOST]) -> [Number; FIELDS_MOST]
     ensures { λ r. ⌜ plainNumbers r ≡ v ⌝ }
 {
-    let mut r = [Number(0); 13];
+    let mut r = [Number(0); FIELDS_MOST];
     let mut i = 0;
-    while i < 13 {
+    while i < FIELDS_MOST {
         r[i] = Number(v[i]);
         i += 1;
     }
@@ -133,11 +135,11 @@ pub fn numbers(v: [i64; 13]) -> [Number; 13]
 
 // The form of the line that is due, with its numbers.
 pub fn due(s: &[u8], p: Place, key: &[u8], n: usize) -> LineDue
-    requires { ⌜ n ≤ 13 ⌝ }
+    requires { ⌜ n ≤ fieldsMost ⌝ }
     requires { ⌜ Ready (now s) p ⌝ }
     ensures { λ r. ⌜ DueAfter (now (s .entry)) p (now (key .entry)) n r ⌝ }
 {
-    let mut v = [0; 13];
+    let mut v = [0; FIELDS_MOST];
     let behind = quick::behind(s, p.at, key);
     let q = read_form(s, p, key, behind, n, &mut v);
     let values = numbers(v);

@@ -5,7 +5,7 @@ use lib.IntN.{ℤ, pos, _+ℤ_, _-ℤ_, _*ℤ_}
 use mir.Syntax.{w64}
 use mir.Val.{SFits}
 use Rattle.sheet.specs.Firing.{Stage}
-use Rattle.document.specs.Quantities.{ambient, moisture}
+use Rattle.sheet.specs.Quantities.{ambient, moisture}
 use Rattle.document.specs.Rules.{Every}
 use Rattle.document.specs.Lawful.{In, StageIn}
 use Rattle.formulas.specs.Rounding.{paper}

@@ -22,6 +22,7 @@ use quantity::gas::CubicMetres;
 use quantity::gas::ExcessAir;
 use quantity::gas::Moisture;
 use quantity::heat::Joules;
+use quantity::sheet::StageCount;
 use quantity::temperature::Degrees;
 use quantity::temperature::Rise;
 use sheet::Stage;
@@ -189,7 +190,7 @@ pub fn flue_heats(burning: Burning, moisture: Moisture, stages: Stages, t: Degre
     ensures { λ r. ⌜ Figure joule x8Most (r .x8 .0) (sum (monoxideHeat paper (burningOf burning)) (stagesOf stages)) ⌝ }
 {
     let lines = stages.lines;
-    let count = held(stages.count.0, 12);
+    let count = held(stages.count.0, StageCount::GREATEST);
     let mut x7 = Joules(0);
     let mut x8 = Joules(0);
     // So written for the compiler: docs/DECISIONS.md, "Two heats in one loop".

@@ -5,11 +5,12 @@ use lib.ListN.{drop, replicate}
 use lib.Seq.{sets}
 use lib.IntN.{ℤ, pos}
 use Rattle.sheet.specs.Refusals.{number, field}
+use Rattle.sheet.specs.Quantities.{fieldsMost}
 use Rattle.document.specs.Schema.{Judged, refused, values, formedBy}
 use Rattle.form.specs.declared.Formed.{Formed}
 
 abbrev pub zeros : List ℤ
-zeros = replicate 13 (pos 0)
+zeros = replicate fieldsMost (pos 0)
 
 -- a refused line has its refusal's number and field; one in form has the number 0, ends `size` bytes on, and its numbers fill the array from
 -- the front

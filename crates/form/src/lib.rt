@@ -2,9 +2,11 @@
 // a name.
 ghost use mathlib.Core.Path.{_≡_};
 ghost use Prim.Native.Nat.{_≤_};
+ghost use Rattle.sheet.specs.Quantities.{fieldsMost};
 ghost use Rattle.document.specs.Schema.{refused, pieces};
 ghost use Rattle.form.specs.Formed.{zeros, handed, lineAt};
 ghost use Rattle.form.specs.Fields.{fieldsOf};
+use sheet::FIELDS_MOST;
 use sheet::Refusal;
 use text::Num;
 
@@ -14,12 +16,12 @@ pub struct Formed {
     pub number: usize,
     pub field: usize,
     pub next: usize,
-    pub values: [i64; 13],
+    pub values: [i64; FIELDS_MOST],
 }
 
 // The line at a place.
 pub fn judged(s: &[u8], at: usize, key: &[u8], n: usize) -> Formed
-    requires { ⌜ n ≤ 13 ⌝ }
+    requires { ⌜ n ≤ fieldsMost ⌝ }
     ensures { λ r. ⌜ r ≡ lineAt (now (s .entry)) at (now (key .entry)) n ⌝ }
 {
     let e = text::find(s, at, b'\n');
@@ -35,13 +37,13 @@ pub fn judged(s: &[u8], at: usize, key: &[u8], n: usize) -> Formed
 
 // What stands behind the key of a line that ends before `next`.
 fn fields(v: &[u8], n: usize, next: usize) -> Formed
-    requires { ⌜ n ≤ 13 ⌝ }
+    requires { ⌜ n ≤ fieldsMost ⌝ }
     ensures { λ r. ⌜ r ≡ fieldsOf n next 0 zeros (pieces 44 (now (v .entry))) ⌝ }
 {
     if n == 0 || text::count(v, b',') != n - 1 {
         return refuse(Refusal::WrongCount);
     }
-    let mut values = [0i64; 13];
+    let mut values = [0i64; FIELDS_MOST];
     let mut at = 0;
     let mut i = 0;
     while i < n {
@@ -73,6 +75,6 @@ fn refuse(why: Refusal) -> Formed
         number: sheet::refusal_number(why),
         field: sheet::refusal_field(why),
         next: 0,
-        values: [0; 13],
+        values: [0; FIELDS_MOST],
     }
 }

@@ -10,13 +10,13 @@ use lib.IntN.{ℤ, natAbs}
 use lib.ListN.{getD}
 use mir.Syntax.{w64}
 use mir.Val.{SFits, hbits}
+use Rattle.sheet.specs.Quantities.{Field}
 use Rattle.arith.specs.Nearest.{nearest}
 use Rattle.arith.proofs.Ring.{both-left, both-right}
 use Rattle.arith.proofs.NearestLaws.{nearest-bound}
 use Rattle.arith.proofs.Order.{sfits-abs}
 use Rattle.arith.proofs.Span.{far}
 use Rattle.arith.proofs.Machine.{Known, small, range, Mx, raw, mean, span, bound}
-use Rattle.document.specs.Schema.{Field}
 use Rattle.document.specs.Lawful.{In}
 use Rattle.document.specs.Tests.{all}
 use Rattle.formulas.specs.Rounding.{paper}

@@ -3,8 +3,7 @@
 use Prim.Native.Nat.{ℕ, _+_, _*_, _/_, _^_, _-_, max}
 use mathlib.Core.List.{List, [], _∷_}
 use lib.IntN.{ℤ, pos, natAbs, _+ℤ_, _-ℤ_, _*ℤ_}
-use Rattle.document.specs.Schema.{Field}
-use Rattle.document.specs.Quantities.{ambient, heating, fuelTemperature, share, moisture, mass, temperature, capacity, flue, cubicMetres, excess, monoxide, minutes, area, surface, nearAir, gasTotal, stagesMost, settersMost, partsMost, sectionsMost}
+use Rattle.sheet.specs.Quantities.{ambient, heating, fuelTemperature, share, moisture, mass, temperature, capacity, flue, cubicMetres, excess, monoxide, minutes, area, surface, nearAir, gasTotal, stagesMost, settersMost, partsMost, sectionsMost, Field}
 use Rattle.formulas.specs.Rounding.{square}
 use Rattle.formulas.specs.Tables.{tableA1}
 use Rattle.formulas.specs.Formulas.{placed, fourth}

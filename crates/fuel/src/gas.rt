@@ -6,6 +6,7 @@ ghost use mathlib.Core.Bool.{not, _&&_};
 ghost use Prim.Native.Nat.{_≤_};
 ghost use lib.Signed.{ltZ};
 ghost use Rattle.sheet.specs.Shown.{same};
+ghost use Rattle.sheet.specs.Quantities.{gases};
 ghost use Rattle.document.specs.Document01.{gasLine};
 ghost use Rattle.fuel.specs.Fuel.{shares};
 ghost use Rattle.sheet.specs.Block.{sum};
@@ -20,21 +21,23 @@ use due::read_form;
 use due::ruled;
 use limits::Number;
 use quantity::gas::Share;
+use sheet::FIELDS_MOST;
+use sheet::GASES;
 use sheet::Refusal;
 
 pub struct GasTaken {
-    pub gas: [Share; 13],
+    pub gas: [Share; GASES],
     pub fault: usize,
 }
 
 // The gas from the thirteen shares of its line.
-fn gas_of(v: [Number; 13]) -> GasTaken
-    ensures { λ r. ⌜ Taken (gasLine .fields) (from 0 13 v) (r .fault) (λ zs. shares (r .gas) ≡ zs) ⌝ }
+fn gas_of(v: [Number; FIELDS_MOST]) -> GasTaken
+    ensures { λ r. ⌜ Taken (gasLine .fields) (from 0 gases v) (r .fault) (λ zs. shares (r .gas) ≡ zs) ⌝ }
 {
-    let mut gas = [Share(0); 13];
+    let mut gas = [Share(0); GASES];
     let mut fault = 0;
     let mut i = 0;
-    while i < 13 {
+    while i < GASES {
         let n = v[i];
         let r = Share::checked(n, fault, i + 1);
         let share = r.value;
@@ -49,17 +52,17 @@ fn gas_of(v: [Number; 13]) -> GasTaken
 pub struct Tally(pub i64);
 
 // What each gas counts in theoretical air, in 0.0238 m³ per m³ and percent.
-const AIR: [i64; 13] = [1, 0, 1, -2, 0, 0, 4, 6, 7, 10, 13, 3, 0];
+const AIR: [i64; GASES] = [1, 0, 1, -2, 0, 0, 4, 6, 7, 10, 13, 3, 0];
 
 // The shares, each as often as its weight says.
-fn weighed(gas: [Share; 13], weights: [i64; 13]) -> Tally
+fn weighed(gas: [Share; GASES], weights: [i64; GASES]) -> Tally
     requires { ⌜ Every (λ x. natAbs (x .0) ≤ 10000) gas ⌝ }
     requires { ⌜ Every (λ w. natAbs w ≤ 13) weights ⌝ }
     ensures { λ r. ⌜ r .0 ≡ weigh weights (shares gas) ⌝ }
 {
     let mut sum = Tally(0);
     let mut i = 0;
-    while i < 13 {
+    while i < GASES {
         let x = gas[i];
         let w = weights[i];
         sum = Tally(sum.0 + w * x.0 as i64);
@@ -83,18 +86,18 @@ fn any(sum: Tally) -> bool
 }
 
 // Whether the shares do not add to 10,000, or the gas asks for no air.
-fn unburnable(gas: [Share; 13]) -> bool
+fn unburnable(gas: [Share; GASES]) -> bool
     requires { ⌜ Every (λ x. natAbs (x .0) ≤ 10000) gas ⌝ }
     ensures { λ r. ⌜ r ≡ not (same (sum (λ z. z) (shares gas)) (pos 10000) && ltZ (pos 0) (weigh airWeights (shares gas))) ⌝ }
 {
-    let full = whole(weighed(gas, [1; 13]));
+    let full = whole(weighed(gas, [1; GASES]));
     let burns = any(weighed(gas, AIR));
     if full { !burns } else { true }
 }
 
 pub struct GasLine {
     pub place: Place,
-    pub gas: [Share; 13],
+    pub gas: [Share; GASES],
 }
 
 // The line `gas`.
@@ -102,9 +105,9 @@ pub fn gas_line(s: &[u8], p: Place) -> GasLine
     requires { ⌜ Ready (now s) p ⌝ }
     ensures { λ r. ⌜ After (now (s .entry)) p (readLine gasLine (gas-rule [])) (r .place) (λ row. shares (r .gas) ≡ row .numbers) ⌝ }
 {
-    let mut numbers = [0; 13];
+    let mut numbers = [0; FIELDS_MOST];
     let behind = quick::behind(s, p.at, b"gas=");
-    let q = read_form(s, p, b"gas=", behind, 13, &mut numbers);
+    let q = read_form(s, p, b"gas=", behind, GASES, &mut numbers);
     let v = due::numbers(numbers);
     let t = gas_of(v);
     let inside = ranged(p.line, q, t.fault);

@@ -21,7 +21,9 @@ use limits::Number;
 use quantity::gas::Share;
 use quantity::heat::HeatingValue;
 use quantity::temperature::FuelTemperature;
+use sheet::FIELDS_MOST;
 use sheet::Fuel;
+use sheet::GASES;
 
 pub struct FuelTaken {
     pub fuel: Fuel,
@@ -29,7 +31,7 @@ pub struct FuelTaken {
 }
 
 // The fuel from the two numbers of its line.
-fn fuel_of(v: [Number; 13]) -> FuelTaken
+fn fuel_of(v: [Number; FIELDS_MOST]) -> FuelTaken
     ensures { λ r. ⌜ Taken (fuelLine .fields) (from 0 2 v) (r .fault) (λ zs. fuel (r .fuel) ≡ fuelOf (plain zs)) ⌝ }
 {
     let n0 = v[0];
@@ -69,7 +71,7 @@ fn fuel_line(s: &[u8], p: Place) -> FuelLine
 pub struct Fuelling {
     pub place: Place,
     pub fuel: Fuel,
-    pub gas: [Share; 13],
+    pub gas: [Share; GASES],
 }
 
 // The lines `fuel` and `gas`.

@@ -25,6 +25,7 @@ use quantity::kiln::Material;
 use quantity::mass::Kilos;
 use quantity::temperature::Degrees;
 use quantity::temperature::FlueTemperature;
+use sheet::FIELDS_MOST;
 use sheet::Refusal;
 use sheet::Stuff;
 use sheet::Ware;
@@ -56,7 +57,7 @@ pub struct WareTaken {
 }
 
 // The ware from the five numbers of its line.
-fn ware_of(v: [Number; 13]) -> WareTaken
+fn ware_of(v: [Number; FIELDS_MOST]) -> WareTaken
     ensures { λ r. ⌜ Taken (wareLine .fields) (from 0 5 v) (r .fault) (λ zs. ware (r .ware) ≡ wareOf (plain zs)) ⌝ }
 {
     let n0 = v[0];
@@ -113,7 +114,7 @@ pub struct WaterTaken {
 }
 
 // The waters from the three numbers of their line.
-fn water_of(v: [Number; 13]) -> WaterTaken
+fn water_of(v: [Number; FIELDS_MOST]) -> WaterTaken
     ensures { λ r. ⌜ Taken (waterLine .fields) (from 0 3 v) (r .fault) (λ zs. water (r .water) ≡ waterOf (plain zs)) ⌝ }
 {
     let n0 = v[0];

@@ -5,9 +5,13 @@ mod program;
 use libc::STDERR_FILENO;
 use libc::STDOUT_FILENO;
 use program::print;
+use sheet::SHEET_MOST;
+
+// Room for the longest sheet and one byte more, so that a longer one is seen to be longer.
+const ROOM: usize = SHEET_MOST + 1;
 
 fn main() {
-    let mut room = [0u8; 16385];
+    let mut room = [0u8; ROOM];
     let sheet = streams::read_all(&mut room);
     if sheet.failed {
         io::write_all(STDERR_FILENO, b"joules: the sheet could not be read\n");

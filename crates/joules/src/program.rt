@@ -2,6 +2,7 @@
 ghost use mathlib.Core.Path.{_≡_};
 ghost use Prim.Native.Nat.{_≤_, _<_};
 ghost use lib.ListN.{length, take};
+ghost use Rattle.sheet.specs.Quantities.{sheetMost};
 ghost use Rattle.pen.specs.Writing.{Written};
 ghost use Rattle.answer.specs.Answer.{joulesOf};
 use answer::refusal_text;
@@ -10,7 +11,7 @@ use answer::refused;
 // Puts the whole printed text at the front: the heats in joules, or the refusal. The first n bytes of the room that was read
 // into are the sheet. The room has more bytes than a sheet may have, so that a longer one is seen to be longer and not cut short.
 pub fn print(room: &[u8], n: usize, out: &mut [u8; 1024]) -> usize
-    requires { ⌜ 16384 < length (now room) ⌝ }
+    requires { ⌜ sheetMost < length (now room) ⌝ }
     requires { ⌜ n ≤ length (now room) ⌝ }
     ensures { λ r. ⌜ Written 0 (joulesOf (take n (now (room .entry)))) (now (out .entry)) (now (out .exit)) r ⌝ }
     ensures { λ r. ⌜ r ≤ length (now (out .exit)) ⌝ }

@@ -2,9 +2,11 @@
 // name no fault; the crate `form` then reads the line with care.
 ghost use mathlib.Core.Path.{_≡_};
 ghost use Prim.Native.Nat.{_≤_, _<_};
+ghost use Rattle.sheet.specs.Quantities.{fieldsMost};
 ghost use Rattle.quick.specs.Key.{standing, behindOf};
 ghost use Rattle.quick.specs.Number.{Number};
 ghost use Rattle.quick.specs.Row.{RowRead};
+use sheet::FIELDS_MOST;
 use std::num::wrapping_sub_u8;
 
 // A number and the place after the byte that closes it; place 0 where there is none.
@@ -41,8 +43,8 @@ pub fn behind(s: &[u8], at: usize, key: &[u8]) -> usize
 }
 
 // Reads n numbers with commas between them and an LF behind them into the first n of v, and answers the place after them, or 0.
-pub fn row(s: &[u8], start: usize, n: usize, v: &mut [i64; 13]) -> usize
-    requires { ⌜ n ≤ 13 ⌝ }
+pub fn row(s: &[u8], start: usize, n: usize, v: &mut [i64; FIELDS_MOST]) -> usize
+    requires { ⌜ n ≤ fieldsMost ⌝ }
     ensures { λ r. ⌜ RowRead (now (s .entry)) start n (now (v .entry)) (now (v .exit)) r ⌝ }
 {
     let mut at = start;

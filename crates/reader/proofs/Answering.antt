@@ -1,5 +1,5 @@
 -- From the place after the last line to document 01's answer. Assumes nothing.
-use Prim.Native.Nat.{ℕ, _≤_, _<_}
+use Prim.Native.Nat.{ℕ, _+_, _≤_, _<_}
 use mathlib.Core.Path.{_≡_, refl, sym, ap, ap₂, _∙_, subst}
 use mathlib.Core.Bool.{Bool, true, false, cond, not}
 use mathlib.Core.List.{List, [], _∷_}
@@ -17,7 +17,7 @@ use Rattle.sheet.specs.Shown.{Shows}
 use Rattle.sheet.specs.Block.{totalGas}
 use Rattle.sheet.proofs.Refusals.{numbered}
 use Rattle.document.specs.Schema.{on, within}
-use Rattle.document.specs.Quantities.{gasTotal}
+use Rattle.sheet.specs.Quantities.{gasTotal, sectionsMost, stagesMost, sheetMost}
 use Rattle.document.specs.Reader.{Sheet, Read, stopped, got, readLines, Answer, Refused, Good, judgedWhole, readOf}
 use Rattle.document.specs.Tests.{all, counted, isRead, when, _else_}
 use Rattle.document.specs.Editions.{document}
@@ -44,8 +44,8 @@ read-same : {x : Sheetˢ} {sheet : Sheet} → Held x sheet → Sized x
     → all (λ y. all (isRead (wallsIn sheet) (y .number)) (counted (length (stagesIn sheet)))) (sectionsIn sheet) ≡ allRead (x .readings)
     (x .sections .count .0) (x .stages .count .0)
 read-same {x} {sheet} h z =
-    let few : length (sectionsIn sheet) ≤ 12 = omega (arith, h .sectionsAre, z .sections) in
-    let short : length (stagesIn sheet) ≤ 12 = omega (arith, h .stagesAre, z .stages) in
+    let few : length (sectionsIn sheet) ≤ sectionsMost = omega (arith, h .sectionsAre, z .sections) in
+    let short : length (stagesIn sheet) ≤ stagesMost = omega (arith, h .stagesAre, z .stages) in
     sym (all-read-is (sectionsIn sheet) (wallsIn sheet) (length (stagesIn sheet)) few short (h .distinct) (h .placed))
     ∙ ap (λ (c : List Reading). allRead c (length (sectionsIn sheet)) (length (stagesIn sheet))) (sym (h .shows .readings))
     ∙ ap₂ (allRead (x .readings)) (h .sectionsAre) (h .stagesAre)
@@ -89,32 +89,32 @@ module _ (s : List ℕ) (q : Place) (x : Sheetˢ) (z : Sized x) where
 -- k of n bytes are looked at
 pub record Looked (n k : ℕ) : Type 0 where
   pub inside : k ≤ n
-  pub few : k ≤ 16384
-  pub whole : n ≤ 16384 → k ≡ n
+  pub few : k ≤ sheetMost
+  pub whole : n ≤ sheetMost → k ≡ n
 
 -- WHERE THE READING BEGINS, and that no more than a sheet may have is looked at
 module _ (n : ℕ) (p : Place) (e : p ≡ openingAs n) where
-  opened : {t : Bool} → ltb 16384 n ≡ t → p ≡ cond t (refusedAt TooLong 0) top
+  opened : {t : Bool} → ltb sheetMost n ≡ t → p ≡ cond t (refusedAt TooLong 0) top
   opened f = subst (λ (t : Bool). p ≡ cond t (refusedAt TooLong 0) top) f e
 
-  opened-short : p .number ≡ 0 → n ≤ 16384
-  opened-short h = here (ltb 16384 n) refl
+  opened-short : p .number ≡ 0 → n ≤ sheetMost
+  opened-short h = here (ltb sheetMost n) refl
     where
-      here : (b : Bool) → ltb 16384 n ≡ b → n ≤ 16384
+      here : (b : Bool) → ltb sheetMost n ≡ b → n ≤ sheetMost
       here true f = absurd (omega (arith, h, ap (λ (q : Place). q .number) (opened f), numbered TooLong .some))
-      here false f = ltb-false 16384 n f
+      here false f = ltb-false sheetMost n f
 
-  opened-long : ¬ (p .number ≡ 0) → 16384 < n
-  opened-long h = here (ltb 16384 n) refl
+  opened-long : ¬ (p .number ≡ 0) → sheetMost < n
+  opened-long h = here (ltb sheetMost n) refl
     where
-      here : (b : Bool) → ltb 16384 n ≡ b → 16384 < n
-      here true f = ltb-true 16384 n f
+      here : (b : Bool) → ltb sheetMost n ≡ b → sheetMost < n
+      here true f = ltb-true sheetMost n f
       here false f = absurd (h (ap (λ (q : Place). q .number) (opened f)))
 
-  pub opened-ready : (t : List ℕ) → length t ≤ 16384 → Ready t p
-  opened-ready t short = record { short = short; fair = λ g. here (ltb 16384 n) refl g }
+  pub opened-ready : (t : List ℕ) → length t ≤ sheetMost → Ready t p
+  opened-ready t short = record { short = short; fair = λ g. here (ltb sheetMost n) refl g }
     where
-      here : (b : Bool) → ltb 16384 n ≡ b → good p ≡ true → Fair t p
+      here : (b : Bool) → ltb sheetMost n ≡ b → good p ≡ true → Fair t p
       here true f g = not-both (good p) g (ap good (opened f))
       here false f g = subst (Fair t) (sym (opened f)) (record { field = refl; line = lit≤ tt; within = omega arith })
 
@@ -125,31 +125,31 @@ module _ (n : ℕ) (p : Place) (e : p ≡ openingAs n) where
   looked-none h f = let long = opened-long h in record { inside = omega arith; few = omega arith; whole = λ g. absurd (omega arith) }
 
 -- THE JUDGEMENT: t is what was looked at, all that a sheet of good length has
-module _ (s t : List ℕ) (all-of-it : length s ≤ 16384 → t ≡ s) (q : Place) (x : Sheetˢ)
+module _ (s t : List ℕ) (all-of-it : length s ≤ sheetMost → t ≡ s) (q : Place) (x : Sheetˢ)
     (after : After t (openingAs (length s)) (readLines document) q (Held x)) (z : Sized x) where
   abbrev found : Lines
   found = record { place = verdictAs (length s) q x; sheet = x }
 
-  too-long : ltb 16384 (length s) ≡ true → Judged s (readOf document s) found
+  too-long : ltb sheetMost (length s) ≡ true → Judged s (readOf document s) found
   unfolding readOf
   too-long e =
       let opened : openingAs (length s) ≡ refusedAt TooLong 0 = rw e in
       let ended : q ≡ refusedAt TooLong 0 = after .passes (ap good opened) ∙ opened in
       rw (e, ended) refl
 
-  of-good-length : ltb 16384 (length s) ≡ false → Judged s (readOf document s) found
+  of-good-length : ltb sheetMost (length s) ≡ false → Judged s (readOf document s) found
   unfolding readOf
   of-good-length e =
       let opened : openingAs (length s) ≡ top = rw e in
-      let same = all-of-it (ltb-false 16384 (length s) e) in
+      let same = all-of-it (ltb-false sheetMost (length s) e) in
       let read = subst (λ (p : Place). After t p (readLines document) q (Held x)) opened after .reads refl in
       let m : Meets s (readLines document 1 s) q (Held x) = subst (λ (u : List ℕ). Meets u (readLines document 1 u) q (Held x)) same read in
       rw e (lines-judged s q x z (readLines document 1 s) refl (subst (λ (u : List ℕ). good q ≡ true → Fair u q) same (after .fair)) m)
 
   pub judgement : Judged s (readOf document s) found
-  judgement = here (ltb 16384 (length s)) refl
+  judgement = here (ltb sheetMost (length s)) refl
     where
-      here : (b : Bool) → ltb 16384 (length s) ≡ b → Judged s (readOf document s) found
+      here : (b : Bool) → ltb sheetMost (length s) ≡ b → Judged s (readOf document s) found
       here true e = too-long e
       here false e = of-good-length e
 
@@ -224,5 +224,5 @@ denied-judged s r h e = here (readOf document s) refl h
     here (Good sheet) g k = not-both (good (r .place)) (behind-good s (r .place) (k .0)) e
 
 -- both numbers are small
-pub denied-small : {s : List ℕ} {n line : ℕ} → Denied s n line → (n ≤ 11) × (line ≤ 16385)
+pub denied-small : {s : List ℕ} {n line : ℕ} → Denied s n line → (n ≤ 11) × (line ≤ sheetMost + 1)
 denied-small {s} {n} {line} d = (omega (arith, d .numbers, numbered (d .why) .most), refuses s (d .why) line (d .is) .within)

@@ -20,6 +20,7 @@ use Rattle.document.specs.Document01.{sheetLine, endLine, heading, fuelling, dr
 use Rattle.document.specs.Editions.{entriesOf, linesOf, document}
 use Rattle.walls.specs.Cells.{Placed}
 use Rattle.sheet.specs.Blank.{blankStage, blankSetter, blankPart, blankSection}
+use Rattle.sheet.specs.Quantities.{gases, stagesMost, settersMost, partsMost, sectionsMost}
 use Rattle.fuel.specs.Fuel.{shares}
 use Rattle.due.specs.declared.Place.{Place}
 use Rattle.due.specs.Place.{After}
@@ -85,7 +86,7 @@ module _ (e : EditionLine) (h : Heading) (f : Fuelling) (d : Drying) (a : Stagin
       }
 
   -- the struct shows what all lines say
-  held : length (f .gas) ≡ 13 → (Z : Row → Type 0) (edition : Row) → pos (e .edition .0) ≡ at edition 0 → (sheet : Sheet)
+  held : length (f .gas) ≡ gases → (Z : Row → Type 0) (edition : Row) → pos (e .edition .0) ≡ at edition 0 → (sheet : Sheet)
       → Said (aboveSays ++ belowSays Z) (filled sheetLine (edition ∷ [])) sheet → Held sheetFrom sheet
   held long Z edition is sheet firing =
       let product = firing .2 in
@@ -128,10 +129,10 @@ module _ (e : EditionLine) (h : Heading) (f : Fuelling) (d : Drying) (a : Stagin
         };
         trimmed = record {
           gas = long;
-          stages = blanked stage stageOf blankStage 12 (stages .1);
-          setters = blanked setter setterOf blankSetter 32 (setters .1);
-          parts = blanked part partOf blankPart 32 (parts .1);
-          sections = blanked section sectionOf blankSection 12 shown;
+          stages = blanked stage stageOf blankStage stagesMost (stages .1);
+          setters = blanked setter setterOf blankSetter settersMost (setters .1);
+          parts = blanked part partOf blankPart partsMost (parts .1);
+          sections = blanked section sectionOf blankSection sectionsMost shown;
         };
         stagesAre = length-map (stages .0) stageOf ∙ stages .1 .count;
         sectionsAre = length-map (sections .0) sectionOf ∙ shown .count;
@@ -141,7 +142,7 @@ module _ (e : EditionLine) (h : Heading) (f : Fuelling) (d : Drying) (a : Stagin
 
 -- ---- group after group
 module _ (s : List ℕ) (start : Place) (e : EditionLine) (h : Heading) (f : Fuelling) (d : Drying) (a : Staging) (b : Loading) (c : Surfaces)
-    (z : ClosingLine) (Z : Row → Type 0) (long : length (f .gas) ≡ 13)
+    (z : ClosingLine) (Z : Row → Type 0) (long : length (f .gas) ≡ gases)
     (he : After s start (readLine sheetLine (λ row. none)) (e .place) (λ row. pos (e .edition .0) ≡ at row 0))
     (hh : GroupRead s (e .place) (paragraphsOf heading) (h .place) (headingSays h))
     (hf : GroupRead s (h .place) (paragraphsOf fuelling) (f .place) (fuellingSays f))

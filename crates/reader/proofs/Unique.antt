@@ -15,6 +15,7 @@ use Rattle.sheet.specs.declared.Section.{Section as Sectionˢ}
 use Rattle.sheet.specs.declared.Sheet.{Sheet as Sheetˢ}
 use Rattle.sheet.specs.Firing.{Stuff, Gas, Firing}
 use Rattle.sheet.specs.Shown.{stuff, gas, stage, setter, part, section, firing, Shows}
+use Rattle.sheet.specs.Quantities.{gases}
 use Rattle.document.specs.Reader.{Sheet, Answer, Refused, Good}
 use Rattle.document.specs.Rows.{gasRow, firingOf}
 use Rattle.document.proofs.Cases.{clash}
@@ -91,10 +92,10 @@ numbers-at : (i n : ℕ) (zs : List ℤ) → length zs ≡ i + n → numbersAt i
 numbers-at i zero zs e = let z : length zs ≤ i = omega arith in sym (drop-of-length-le zs z)
 numbers-at i (suc n) zs e = rw (drop-cons zs i (pos 0) (omega arith), numbers-at (suc i) n zs (omega arith))
 
-shares-are : (l : List Share) → length l ≡ 13 → gasRow (gas l) .numbers ≡ map (λ x. x .0) l
-shares-are l h = numbers-at 0 13 (map (λ (x : Share). x .0) l) (length-map l (λ (x : Share). x .0) ∙ h)
+shares-are : (l : List Share) → length l ≡ gases → gasRow (gas l) .numbers ≡ map (λ x. x .0) l
+shares-are l h = numbers-at 0 gases (map (λ (x : Share). x .0) l) (length-map l (λ (x : Share). x .0) ∙ h)
 
-gas-one : (l m : List Share) → length l ≡ 13 → length m ≡ 13 → gas l ≡ gas m → l ≡ m
+gas-one : (l m : List Share) → length l ≡ gases → length m ≡ gases → gas l ≡ gas m → l ≡ m
 gas-one l m h k e =
     map-one (λ (x : Share). x .0) (λ x y q i. record { 0 = q i }) l m (sym (shares-are l h) ∙ ap (λ (z : Gas). gasRow z .numbers) e ∙ shares-are m k)
 

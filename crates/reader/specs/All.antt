@@ -20,6 +20,7 @@ use Rattle.head.specs.declared.drying.Drying.{Drying}
 use Rattle.reader.specs.declared.all.Lines.{Lines}
 use Rattle.due.specs.Place.{After}
 use Rattle.sheet.specs.Blank.{blankStage, blankSetter, blankPart, blankSection}
+use Rattle.sheet.specs.Quantities.{gases, stagesMost, settersMost, partsMost, sectionsMost}
 
 abbrev pub headOf : Edition → Heading → Fuelling → Drying → Head
 headOf e h f d = record {
@@ -43,11 +44,11 @@ pub record Blanked {A : Type 0} (blank : A) (most count : ℕ) (lines : List A) 
 
 -- nothing stands in the struct but what it shows
 pub record Trimmed (x : Sheetˢ) : Type 0 where
-  pub gas : length (x .head .gas) ≡ 13
-  pub stages : Blanked blankStage 12 (x .stages .count .0) (x .stages .lines)
-  pub setters : Blanked blankSetter 32 (x .setters .count .0) (x .setters .lines)
-  pub parts : Blanked blankPart 32 (x .parts .count .0) (x .parts .lines)
-  pub sections : Blanked blankSection 12 (x .sections .count .0) (x .sections .lines)
+  pub gas : length (x .head .gas) ≡ gases
+  pub stages : Blanked blankStage stagesMost (x .stages .count .0) (x .stages .lines)
+  pub setters : Blanked blankSetter settersMost (x .setters .count .0) (x .setters .lines)
+  pub parts : Blanked blankPart partsMost (x .parts .count .0) (x .parts .lines)
+  pub sections : Blanked blankSection sectionsMost (x .sections .count .0) (x .sections .lines)
 
 -- the struct holds what the rows of a sheet say, and its rules of sections and walls were kept
 pub record Held (x : Sheetˢ) (sheet : Sheet) : Type 0 where
@@ -60,8 +61,8 @@ pub record Held (x : Sheetˢ) (sheet : Sheet) : Type 0 where
 
 -- what holds of the struct whatever was read
 pub record Sized (x : Sheetˢ) : Type 0 where
-  pub stages : x .stages .count .0 ≤ 12
-  pub sections : x .sections .count .0 ≤ 12
+  pub stages : x .stages .count .0 ≤ stagesMost
+  pub sections : x .sections .count .0 ≤ sectionsMost
 
 pub record LinesRead (s : List ℕ) (start : Place) (r : Lines) : Type 0 where
   pub after : After s start (readLines document) (r .place) (Held (r .sheet))

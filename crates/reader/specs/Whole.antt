@@ -13,7 +13,7 @@ use Rattle.sheet.specs.Refusals.{number, field}
 use Rattle.sheet.specs.Shown.{Shows}
 use Rattle.sheet.specs.Block.{stagesOf, totalGas}
 use Rattle.document.specs.Schema.{within}
-use Rattle.document.specs.Quantities.{gasTotal}
+use Rattle.sheet.specs.Quantities.{gasTotal, sheetMost}
 use Rattle.document.specs.Reader.{Sheet, Read, stopped, got, readLines, Answer, Refused, Good}
 use Rattle.document.specs.Editions.{document}
 use Rattle.document.specs.Rows.{firingOf}
@@ -39,7 +39,7 @@ bottom s = record { number = 0; field = 0; line = lineEnded (readLines document 
 
 -- where the reading of n bytes begins
 abbrev pub openingAs : ℕ → Place
-openingAs n = cond (ltb 16384 n) (refusedAt TooLong 0) top
+openingAs n = cond (ltb sheetMost n) (refusedAt TooLong 0) top
 
 -- the rules of the whole sheet, by the struct
 abbrev pub gasOf : Sheetˢ → ℤ

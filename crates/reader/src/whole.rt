@@ -6,6 +6,7 @@ use due::Place;
 use due::refused;
 use quantity::gas::GasTotal;
 use sheet::Refusal;
+use sheet::SHEET_MOST;
 use sheet::Sheet;
 use sheet::block::total_gas;
 
@@ -13,7 +14,7 @@ use sheet::block::total_gas;
 pub fn opening(n: usize) -> Place
     ensures { λ r. ⌜ r ≡ openingAs n ⌝ }
 {
-    if n > 16_384 {
+    if n > SHEET_MOST {
         return refused(Refusal::TooLong, 0);
     }
     Place {

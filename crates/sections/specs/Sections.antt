@@ -22,6 +22,7 @@ use Rattle.due.specs.Place.{After}
 use Rattle.due.specs.Block.{Filled, lacks, With}
 use Rattle.sheet.specs.Blank.{blankSection}
 use Rattle.sheet.specs.declared.Sections.{Sections}
+use Rattle.sheet.specs.Quantities.{sectionsMost}
 use Rattle.sections.specs.declared.SectionBlock.{SectionBlock}
 
 -- the sections' numbers, by which they are looked up
@@ -46,7 +47,7 @@ NewSection s p above i r =
 
 -- the rows of the sections, no number twice
 pub record SectionsShown (k : ℕ) (lines : List Sectionˢ) (rows : List Row) : Type 0 where
-  pub filled : Filled section sectionOf blankSection 12 k lines rows
+  pub filled : Filled section sectionOf blankSection sectionsMost k lines rows
   pub distinct : Distinct (map sectionOf rows)
 
 abbrev pub SectionsAfter : List ℕ → Place → ℕ → Place → List Sectionˢ → Type 0
@@ -63,4 +64,4 @@ SectionRows x = SectionsShown (x .count .0) (x .lines)
 pub record SectionsRead (s : List ℕ) (p : Place) (r : SectionBlock) : Type 0 where
   pub after : (seen : Sheet) → lacks (bytes "section") seen ≡ true
       → After s p (readParagraph (sections .paragraph) seen) (r .place) (With sectionLine seen (SectionRows (r .sections)))
-  pub within : r .sections .count .0 ≤ 12
+  pub within : r .sections .count .0 ≤ sectionsMost

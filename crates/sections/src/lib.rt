@@ -5,6 +5,7 @@ ghost use Prim.Native.Nat.{_≤_};
 ghost use lib.ListN.{length, take};
 ghost use Rattle.text.specs.Bytes.{bytes};
 ghost use Rattle.sheet.specs.Shown.{section};
+ghost use Rattle.sheet.specs.Quantities.{sectionsLeast, sectionsMost};
 ghost use Rattle.document.specs.Document01.{sectionLine};
 ghost use Rattle.document.specs.Reader.{readLine, countLine};
 ghost use Rattle.document.specs.Rows.{sectionOf};
@@ -22,6 +23,7 @@ use quantity::kiln::Area;
 use quantity::kiln::SectionNumber;
 use quantity::kiln::SectionPlace;
 use quantity::sheet::SectionCount;
+use sheet::FIELDS_MOST;
 use sheet::Refusal;
 use sheet::Section;
 use sheet::Sections;
@@ -34,7 +36,7 @@ pub struct SectionCounted {
 // The line `sections`.
 fn section_count(s: &[u8], p: Place) -> SectionCounted
     requires { ⌜ Ready (now s) p ⌝ }
-    ensures { λ r. ⌜ CountAfter (now (s .entry)) p (countLine (bytes "sections") 1 12) (r .place) (r .count .0) 12 ⌝ }
+    ensures { λ r. ⌜ CountAfter (now (s .entry)) p (countLine (bytes "sections") sectionsLeast sectionsMost) (r .place) (r .count .0) sectionsMost ⌝ }
 {
     let d = due(s, p, b"sections=", 1);
     let v = d.values;
@@ -52,7 +54,7 @@ pub struct SectionTaken {
 }
 
 // A section from the three numbers of its line.
-fn section_of(v: [Number; 13]) -> SectionTaken
+fn section_of(v: [Number; FIELDS_MOST]) -> SectionTaken
     ensures { λ r. ⌜ Taken (sectionLine .fields) (from 0 3 v) (r .fault) (λ zs. section (r .section) ≡ sectionOf (plain zs)) ⌝ }
 {
     let n0 = v[0];
@@ -94,12 +96,12 @@ fn section_line(s: &[u8], p: Place) -> SectionLine
 }
 
 // The numbers of the sections, in their order, so that a section can be looked up without copying all of them.
-pub fn numbers_of(sections: [Section; 12]) -> [usize; 12]
+pub fn numbers_of(sections: [Section; SectionCount::GREATEST]) -> [usize; SectionCount::GREATEST]
     ensures { λ r. ⌜ r ≡ numbers sections ⌝ }
 {
-    let mut r = [0; 12];
+    let mut r = [0; SectionCount::GREATEST];
     let mut i = 0;
-    while i < 12 {
+    while i < SectionCount::GREATEST {
         let x = sections[i];
         r[i] = x.number.0;
         i += 1;
@@ -108,8 +110,12 @@ pub fn numbers_of(sections: [Section; 12]) -> [usize; 12]
 }
 
 // How many of the first `count` numbers stand before this one, or `count` where it is not among them.
-pub fn section_place(numbers: &[usize; 12], count: usize, number: SectionNumber) -> usize
-    requires { ⌜ (count ≤ 12) × (count ≤ length (now numbers)) ⌝ }
+pub fn section_place(
+    numbers: &[usize; SectionCount::GREATEST],
+    count: usize,
+    number: SectionNumber,
+) -> usize
+    requires { ⌜ (count ≤ sectionsMost) × (count ≤ length (now numbers)) ⌝ }
     ensures { λ r. ⌜ r ≡ placeOf (number .0) (take count (now (numbers .entry))) ⌝ }
 {
     let mut i = 0;
@@ -123,8 +129,8 @@ pub fn section_place(numbers: &[usize; 12], count: usize, number: SectionNumber)
 }
 
 // One line `section`, whose number must not stand among the first i.
-fn new_section(s: &[u8], p: Place, above: &[usize; 12], i: usize) -> SectionLine
-    requires { ⌜ (i ≤ 12) × (i ≤ length (now above)) ⌝ }
+fn new_section(s: &[u8], p: Place, above: &[usize; SectionCount::GREATEST], i: usize) -> SectionLine
+    requires { ⌜ (i ≤ sectionsMost) × (i ≤ length (now above)) ⌝ }
     requires { ⌜ Ready (now s) p ⌝ }
     ensures { λ r. ⌜ NewSection (now (s .entry)) p (now (above .entry)) i r ⌝ }
 {
@@ -139,18 +145,18 @@ fn new_section(s: &[u8], p: Place, above: &[usize; 12], i: usize) -> SectionLine
 
 pub struct SectionRows {
     pub place: Place,
-    pub lines: [Section; 12],
+    pub lines: [Section; SectionCount::GREATEST],
 }
 
 // k lines `section`.
 fn section_rows(s: &[u8], start: Place, k: usize) -> SectionRows
-    requires { ⌜ k ≤ 12 ⌝ }
+    requires { ⌜ k ≤ sectionsMost ⌝ }
     requires { ⌜ Ready (now s) start ⌝ }
     ensures { λ r. ⌜ SectionsAfter (now (s .entry)) start k (r .place) (r .lines) ⌝ }
 {
     let none = sheet::blank::section();
-    let mut numbers = [none.number.0; 12];
-    let mut lines = [none; 12];
+    let mut numbers = [none.number.0; SectionCount::GREATEST];
+    let mut lines = [none; SectionCount::GREATEST];
     let mut p = start;
     let mut i = 0;
     while i < k {

@@ -9,6 +9,7 @@ use Rattle.sheet.specs.declared.Section.{Section}
 use Rattle.sheet.specs.declared.Head.{Head}
 use Rattle.sheet.specs.declared.Sheet.{Sheet}
 use Rattle.sheet.specs.Shown.{unread}
+use Rattle.sheet.specs.Quantities.{gases, stagesMost, settersMost, partsMost, sectionsMost}
 
 abbrev pub blankStuff : Stuff
 blankStuff = record { material = record { 0 = 0 }; c = record { 0 = pos 0 } }
@@ -38,7 +39,7 @@ blankHead = record {
   product = record { 0 = pos 0 };
   ambient = record { 0 = pos 0 };
   fuel = record { heating = record { 0 = pos 0 }; temperature = record { 0 = pos 0 } };
-  gas = replicate 13 (record { 0 = pos 0 });
+  gas = replicate gases (record { 0 = pos 0 });
   moisture = record { 0 = pos 0 };
   ware = record { green = record { 0 = pos 0 }; entry = record { 0 = pos 0 }; highest = record { 0 = pos 0 }; stuff = blankStuff };
   water = record { adsorbed = record { 0 = pos 0 }; crystal = record { 0 = pos 0 }; flue = record { 0 = pos 0 } };
@@ -48,9 +49,9 @@ blankHead = record {
 abbrev pub blankSheet : Sheet
 blankSheet = record {
   head = blankHead;
-  stages = record { count = record { 0 = 0 }; lines = replicate 12 blankStage };
-  setters = record { count = record { 0 = 0 }; lines = replicate 32 blankSetter };
-  parts = record { count = record { 0 = 0 }; lines = replicate 32 blankPart };
-  sections = record { count = record { 0 = 0 }; lines = replicate 12 blankSection };
+  stages = record { count = record { 0 = 0 }; lines = replicate stagesMost blankStage };
+  setters = record { count = record { 0 = 0 }; lines = replicate settersMost blankSetter };
+  parts = record { count = record { 0 = 0 }; lines = replicate partsMost blankPart };
+  sections = record { count = record { 0 = 0 }; lines = replicate sectionsMost blankSection };
   readings = replicate 144 unread;
 }

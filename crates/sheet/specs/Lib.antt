@@ -1,3 +1,4 @@
+pub mod Quantities
 pub mod Firing
 pub mod Refusals
 pub mod Shown

@@ -3,6 +3,7 @@ ghost use mathlib.Core.Path.{_≡_};
 ghost use Rattle.sheet.specs.Shown.{unread};
 ghost use Rattle.sheet.specs.Blank.{blankStage, blankSetter, blankPart, blankSection, blankHead, blankSheet};
 use crate::Fuel;
+use crate::GASES;
 use crate::Head;
 use crate::Part;
 use crate::Parts;
@@ -121,7 +122,7 @@ fn head() -> Head
             heating: HeatingValue(0),
             temperature: FuelTemperature(0),
         },
-        gas: [Share(0); 13],
+        gas: [Share(0); GASES],
         moisture: Moisture(0),
         ware: Ware {
             green: Kilos(0),
@@ -149,19 +150,19 @@ pub fn sheet() -> Sheet
         head: head(),
         stages: Stages {
             count: StageCount(0),
-            lines: [stage(); 12],
+            lines: [stage(); StageCount::GREATEST],
         },
         setters: Setters {
             count: SetterCount(0),
-            lines: [setter(); 32],
+            lines: [setter(); SetterCount::GREATEST],
         },
         parts: Parts {
             count: PartCount(0),
-            lines: [part(); 32],
+            lines: [part(); PartCount::GREATEST],
         },
         sections: Sections {
             count: SectionCount(0),
-            lines: [section(); 12],
+            lines: [section(); SectionCount::GREATEST],
         },
         readings: [reading(); 144],
     }

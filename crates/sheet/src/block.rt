@@ -4,6 +4,7 @@ ghost use Prim.Native.Nat.{min};
 ghost use Rattle.sheet.specs.Block.{stagesOf, totalGas};
 use crate::Stages;
 use limits::Number;
+use quantity::sheet::StageCount;
 
 // How many lines a block holds: its count, and never more than it has room for.
 pub fn held(count: usize, room: usize) -> usize
@@ -17,7 +18,7 @@ pub fn total_gas(stages: Stages) -> Number
     ensures { λ r. ⌜ r .0 ≡ totalGas (stagesOf stages) ⌝ }
 {
     let lines = stages.lines;
-    let count = held(stages.count.0, 12);
+    let count = held(stages.count.0, StageCount::GREATEST);
     let mut sum = Number(0);
     for i in 0..count {
         let stage = lines[i];

@@ -31,6 +31,15 @@ use quantity::temperature::FuelTemperature;
 use quantity::temperature::NearAir;
 use quantity::temperature::SurfaceTemperature;
 
+// How many gases the shares of a fuel tell of.
+pub const GASES: usize = 13;
+
+// How many fields a line has at most: the widest is the line `gas`.
+pub const FIELDS_MOST: usize = GASES;
+
+// How many bytes a sheet has at most.
+pub const SHEET_MOST: usize = 16_384;
+
 // Why a sheet is refused. A field counts from 1.
 pub enum Refusal {
     TooLong,
@@ -117,7 +126,7 @@ pub struct Head {
     pub product: Product,
     pub ambient: Ambient,
     pub fuel: Fuel,
-    pub gas: [Share; 13],
+    pub gas: [Share; GASES],
     pub moisture: Moisture,
     pub ware: Ware,
     pub water: Water,
@@ -127,22 +136,22 @@ pub struct Head {
 // A block: how many lines it has, and the lines, of which those beyond the count mean nothing.
 pub struct Stages {
     pub count: StageCount,
-    pub lines: [Stage; 12],
+    pub lines: [Stage; StageCount::GREATEST],
 }
 
 pub struct Setters {
     pub count: SetterCount,
-    pub lines: [Setter; 32],
+    pub lines: [Setter; SetterCount::GREATEST],
 }
 
 pub struct Parts {
     pub count: PartCount,
-    pub lines: [Part; 32],
+    pub lines: [Part; PartCount::GREATEST],
 }
 
 pub struct Sections {
     pub count: SectionCount,
-    pub lines: [Section; 12],
+    pub lines: [Section; SectionCount::GREATEST],
 }
 
 // The readings stand by section and stage: that of the i-th section in the j-th stage at 12 i + j, both from 0.

@@ -6,7 +6,7 @@ use lib.Dec.{T, leb, leb→le}
 use lib.IntN.{ℤ, pos, natAbs}
 use Rattle.arith.proofs.Ring.{both-left, both-right}
 use Rattle.arith.proofs.Machine.{Known, raw, num, _⟨*⟩_, _⟨+⟩_}
-use Rattle.document.specs.Quantities.{temperature}
+use Rattle.sheet.specs.Quantities.{temperature}
 use Rattle.formulas.specs.declared.Straight.{Straight}
 use Rattle.formulas.specs.Tables.{tableA2, straight, straightAt}
 use Rattle.formulas.specs.Formulas.{byTable}

@@ -10,7 +10,7 @@ use Rattle.sheet.specs.declared.Setters.{Setters as Settersˢ}
 use Rattle.sheet.specs.declared.Parts.{Parts as Partsˢ}
 use Rattle.sheet.specs.Firing.{Stuff, Ware, Water, Setter, Part}
 use Rattle.sheet.specs.Shown.{setter, part}
-use Rattle.document.specs.Quantities.{product, ambient, mass, temperature}
+use Rattle.sheet.specs.Quantities.{product, ambient, mass, temperature}
 use Rattle.document.specs.Rules.{Every}
 use Rattle.document.specs.Lawful.{In, StuffIn, WareIn, WaterIn}
 use Rattle.formulas.specs.Tables.{rowOf, straightAt}

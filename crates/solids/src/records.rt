@@ -2,7 +2,7 @@
 ghost use mathlib.Core.Path.{_≡_};
 ghost use Rattle.sheet.specs.Firing.{Firing};
 ghost use Rattle.sheet.specs.Shown.{ware as wareOf};
-ghost use Rattle.document.specs.Quantities.{temperature};
+ghost use Rattle.sheet.specs.Quantities.{temperature};
 ghost use Rattle.document.specs.Lawful.{SetterIn, PartIn};
 ghost use Rattle.formulas.specs.Rounding.{paper};
 ghost use Rattle.formulas.specs.Formulas.{joule, q3, q5, q8, x1, x5, x10};
@@ -13,6 +13,8 @@ use crate::material::sensible;
 use quantity::heat::Joules;
 use quantity::mass::Kilos;
 use quantity::mass::Product;
+use quantity::sheet::PartCount;
+use quantity::sheet::SetterCount;
 use quantity::temperature::Degrees;
 use sheet::Parts;
 use sheet::Setters;
@@ -39,7 +41,7 @@ pub fn setter_heats(setters: Setters, t: Degrees, highest: Degrees) -> SetterHea
     ensures { λ r. ⌜ ((f : Firing) → f .setters ≡ settersOf setters → f .ware .highest ≡ highest .0 → Figure joule settersHeatMost (r .x5 .0) (x5 f paper)) ⌝ }
 {
     let lines = setters.lines;
-    let count = held(setters.count.0, 32);
+    let count = held(setters.count.0, SetterCount::GREATEST);
     let mut q3 = Joules(0);
     let mut x5 = Joules(0);
     // So written for the compiler: docs/DECISIONS.md, "Two heats in one loop".
@@ -58,7 +60,7 @@ pub fn part_heats(parts: Parts, t: Degrees) -> PartHeats
     ensures { λ r. ⌜ ((f : Firing) → f .parts ≡ partsOf parts → f .ambient ≡ t .0 → Figure joule partsHeatMost (r .x10 .0) (x10 f paper)) ⌝ }
 {
     let lines = parts.lines;
-    let count = held(parts.count.0, 32);
+    let count = held(parts.count.0, PartCount::GREATEST);
     let mut q8 = Joules(0);
     let mut x10 = Joules(0);
     // So written for the compiler: docs/DECISIONS.md, "Two heats in one loop".

@@ -3,7 +3,7 @@ ghost use mathlib.Core.Path.{_≡_};
 ghost use lib.IntN.{ℤ, pos, _+ℤ_, _-ℤ_, _*ℤ_};
 ghost use Rattle.sheet.specs.Firing.{Firing};
 ghost use Rattle.sheet.specs.Shown.{water as waterOf};
-ghost use Rattle.document.specs.Quantities.{mass};
+ghost use Rattle.sheet.specs.Quantities.{mass};
 ghost use Rattle.document.specs.Lawful.{In};
 ghost use Rattle.formulas.specs.Rounding.{paper};
 ghost use Rattle.formulas.specs.Formulas.{joule, x2, x3, waterHeat};

@@ -13,7 +13,7 @@ use Rattle.sheet.specs.declared.Stages.{Stages}
 use Rattle.sheet.specs.Firing.{Stage, Section, Firing}
 use Rattle.sheet.specs.Shown.{section, laid, unread}
 use Rattle.sheet.specs.Block.{stagesOf}
-use Rattle.document.specs.Quantities.{surface, nearAir, minutes}
+use Rattle.sheet.specs.Quantities.{surface, nearAir, minutes}
 use Rattle.document.specs.Lawful.{In, StageIn, SectionIn, Lawful}
 use Rattle.formulas.specs.Sizes.{warmerMost, cellsMost}
 

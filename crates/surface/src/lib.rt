@@ -18,6 +18,8 @@ use quantity::heat::Joules;
 use quantity::kiln::Area;
 use quantity::kiln::Minutes;
 use quantity::kiln::SectionPlace;
+use quantity::sheet::SectionCount;
+use quantity::sheet::StageCount;
 use quantity::temperature::Degrees;
 use quantity::temperature::Rise;
 use sheet::Reading;
@@ -122,8 +124,8 @@ pub fn x9(readings: [Reading; 144], sections: Sections, stages: Stages) -> Joule
 {
     let places = sections.lines;
     let times = stages.lines;
-    let rows = held(sections.count.0, 12);
-    let columns = held(stages.count.0, 12);
+    let rows = held(sections.count.0, SectionCount::GREATEST);
+    let columns = held(stages.count.0, StageCount::GREATEST);
     let mut sum = Joules(0);
     for i in 0..rows {
         for j in 0..columns {

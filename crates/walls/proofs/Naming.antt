@@ -15,7 +15,7 @@ use Rattle.document.specs.Schema.{Row}
 use Rattle.document.specs.Tests.{when}
 use Rattle.document.specs.Document01.{wallLine}
 use Rattle.document.specs.Lawful.{In}
-use Rattle.document.specs.Quantities.{stageNumber}
+use Rattle.sheet.specs.Quantities.{stageNumber}
 use Rattle.document.specs.Reader.{readLine}
 use Rattle.document.specs.Rows.{wallOf}
 use Rattle.document.proofs.Cases.{clash}

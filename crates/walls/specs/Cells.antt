@@ -6,7 +6,7 @@ use lib.ListN.{length, getD}
 use Rattle.sheet.specs.declared.Reading.{Reading}
 use Rattle.sheet.specs.Firing.{Section, Wall}
 use Rattle.sheet.specs.Shown.{before, unread, wasRead}
-use Rattle.document.specs.Quantities.{stageNumber}
+use Rattle.sheet.specs.Quantities.{stageNumber}
 use Rattle.document.specs.Lawful.{In}
 
 -- A wall whose section is listed and whose stage is one of twelve.

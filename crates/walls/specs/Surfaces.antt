@@ -6,6 +6,7 @@ use mathlib.Core.List.{List, [], _∷_}
 use lib.ListN.{length}
 use Rattle.text.specs.Bytes.{bytes}
 use Rattle.sheet.specs.Firing.{Section}
+use Rattle.sheet.specs.Quantities.{sectionsMost}
 use Rattle.document.specs.Reader.{Sheet, readParagraph, readParagraphs}
 use Rattle.document.specs.Rows.{stagesIn, sectionsIn}
 use Rattle.document.specs.Entries.{paragraphsOf}
@@ -38,4 +39,4 @@ pub record SurfacesRead (s : List ℕ) (p : Place) (k : ℕ) (r : Surfaces) : Ty
   pub after : (seen : Sheet) → Below k seen → After s p (readParagraphs (paragraphsOf surfaces) seen) (r .place) (Said (surfacesSay r) seen)
   pub passes : good p ≡ false → r .place ≡ p
   pub fair : good (r .place) ≡ true → Fair s (r .place)
-  pub within : r .sections .count .0 ≤ 12
+  pub within : r .sections .count .0 ≤ sectionsMost

@@ -19,6 +19,7 @@ use Rattle.document.specs.Rows.{wallOf, stagesIn, sectionsIn}
 use Rattle.document.specs.Rules.{Every}
 use Rattle.walls.specs.declared.line.Wall.{Wall as Wallˢ}
 use Rattle.sheet.specs.declared.Reading.{Reading}
+use Rattle.sheet.specs.Quantities.{stagesMost}
 use Rattle.text.specs.Bytes.{bytes}
 use Rattle.document.specs.Reader.{Sheet, readLine, readRows}
 use Rattle.walls.specs.declared.rows.NamedWall.{NamedWall}
@@ -37,7 +38,7 @@ wall x = record { section = pos (x .section .0); stage = pos (x .stage .0); surf
 pub record WallAfter (s : List ℕ) (p : Place) (r : WallLine) : Type 0 where
   pub after : After s p (readLine wallLine (λ row. none)) (r .place) (λ row. wall (r .wall) ≡ wallOf row)
   pub least : 1 ≤ r .wall .stage .0
-  pub most : r .wall .stage .0 ≤ 12
+  pub most : r .wall .stage .0 ≤ stagesMost
 
 -- 6: no such section, or no such stage
 abbrev pub six : List Section → ℕ → Wall → Option Refusal

@@ -3,6 +3,7 @@ ghost use mathlib.Core.Path.{_≡_};
 ghost use lib.Signed.{ltZ};
 ghost use Rattle.text.specs.Bytes.{bytes};
 ghost use Rattle.sheet.specs.Shown.{reading};
+ghost use Rattle.sheet.specs.Quantities.{wallsMost};
 ghost use Rattle.document.specs.Schema.{plain};
 ghost use Rattle.document.specs.Document01.{wallLine};
 ghost use Rattle.document.specs.Reader.{countLine};
@@ -20,6 +21,7 @@ use quantity::kiln::StageNumber;
 use quantity::sheet::WallCount;
 use quantity::temperature::NearAir;
 use quantity::temperature::SurfaceTemperature;
+use sheet::FIELDS_MOST;
 use sheet::Reading;
 
 pub struct WallCounted {
@@ -30,7 +32,7 @@ pub struct WallCounted {
 // The line `walls`.
 pub fn wall_count(s: &[u8], p: Place) -> WallCounted
     requires { ⌜ Ready (now s) p ⌝ }
-    ensures { λ r. ⌜ CountAfter (now (s .entry)) p (countLine (bytes "walls") 0 48) (r .place) (r .count .0) 48 ⌝ }
+    ensures { λ r. ⌜ CountAfter (now (s .entry)) p (countLine (bytes "walls") 0 wallsMost) (r .place) (r .count .0) wallsMost ⌝ }
 {
     let d = due(s, p, b"walls=", 1);
     let v = d.values;
@@ -56,7 +58,7 @@ pub struct WallTaken {
 }
 
 // A wall reading from the four numbers of its line.
-fn wall_of(v: [Number; 13]) -> WallTaken
+fn wall_of(v: [Number; FIELDS_MOST]) -> WallTaken
     ensures { λ r. ⌜ Taken (wallLine .fields) (from 0 4 v) (r .fault) (λ zs. wall (r .wall) ≡ wallOf (plain zs)) ⌝ }
 {
     let n0 = v[0];

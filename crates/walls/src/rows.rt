@@ -7,6 +7,7 @@ ghost use lib.Signed.{ltZ};
 ghost use mathlib.Core.List.{map};
 ghost use Rattle.sheet.specs.declared.Refusal.the-variants.{ReadTwice, Colder};
 ghost use Rattle.sheet.specs.Shown.{wasRead, section};
+ghost use Rattle.sheet.specs.Quantities.{sectionsMost};
 ghost use Rattle.due.specs.Place.{Ready, ruled as ruledPlace};
 ghost use Rattle.walls.specs.Walls.{nowhere, NamedAfter, WallsAfter};
 ghost use Rattle.walls.specs.Surfaces.{WallsRead};
@@ -17,6 +18,7 @@ use crate::line::wall_count;
 use crate::line::wall_line;
 use due::Place;
 use due::ruled;
+use quantity::sheet::SectionCount;
 use sections::section_place;
 use sheet::Reading;
 use sheet::Refusal;
@@ -43,8 +45,14 @@ fn unnamed(line: usize, q: Place, wall: Wall) -> NamedWall
 }
 
 // One line `wall` and rule 6 on it: its section is listed, and there is its stage.
-fn named_wall(s: &[u8], p: Place, numbers: &[usize; 12], count: usize, stages: usize) -> NamedWall
-    requires { ⌜ (count ≤ 12) × (count ≤ length (now numbers)) ⌝ }
+fn named_wall(
+    s: &[u8],
+    p: Place,
+    numbers: &[usize; SectionCount::GREATEST],
+    count: usize,
+    stages: usize,
+) -> NamedWall
+    requires { ⌜ (count ≤ sectionsMost) × (count ≤ length (now numbers)) ⌝ }
     requires { ⌜ Ready (now s) p ⌝ }
     ensures { λ r. ⌜ NamedAfter (now (s .entry)) p (now (numbers .entry)) count stages r ⌝ }
 {
@@ -89,11 +97,11 @@ fn wall_rows(
     s: &[u8],
     start: Place,
     n: usize,
-    sections: [Section; 12],
+    sections: [Section; SectionCount::GREATEST],
     count: usize,
     stages: usize,
 ) -> WallRows
-    requires { ⌜ count ≤ 12 ⌝ }
+    requires { ⌜ count ≤ sectionsMost ⌝ }
     requires { ⌜ Ready (now s) start ⌝ }
     ensures { λ r. ⌜ WallsAfter (now (s .entry)) start n (map section (take count sections)) stages (r .place) (r .readings) ⌝ }
 {
@@ -120,7 +128,7 @@ fn wall_rows(
 
 // The line `walls` and its lines `wall`, for the first sections and so many stages.
 pub fn wall_block(s: &[u8], p: Place, sections: Sections, stages: usize) -> WallRows
-    requires { ⌜ sections .count .0 ≤ 12 ⌝ }
+    requires { ⌜ sections .count .0 ≤ sectionsMost ⌝ }
     requires { ⌜ Ready (now s) p ⌝ }
     ensures { λ r. ⌜ WallsRead (now (s .entry)) p (map section (take (sections .count .0) (sections .lines))) stages r ⌝ }
 {

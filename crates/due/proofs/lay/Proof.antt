@@ -11,6 +11,7 @@ use lib.Seq.{take-suc, take-suc-set, take-all}
 use mir.Facts.{toZ-ofZ}
 use mir.Syntax.{w64}
 use mir.Val.{toZ, ofZ}
+use Rattle.sheet.specs.Quantities.{fieldsMost}
 use Rattle.due.proofs.lay.Statement.{statement}
 use Rattle.due.proofs.lay.Tie as tie
 
@@ -19,10 +20,10 @@ one-more : (v numbers : List ℤ) (i : ℕ) (x : ℤ) → i < length v → i < l
 one-more v numbers i x h k e q = rw (add-one i, take-suc-set v i x h, take-suc numbers i (pos 0) k, q, e)
 
 abbrev Inv-loop : tie.InvT-loop
-Inv-loop v₀ numbers i₀ v i = (i ≤ 13) × (length v ≡ 13) × (take i v ≡ take i numbers)
+Inv-loop v₀ numbers i₀ v i = (i ≤ fieldsMost) × (length v ≡ fieldsMost) × (take i v ≡ take i numbers)
 
 abbrev μ-loop : tie.MeasureT-loop
-μ-loop v₀ numbers i₀ v i = 13 - i
+μ-loop v₀ numbers i₀ v i = fieldsMost - i
 
 loop-holds : tie.Need-loop-holds Inv-loop μ-loop
 loop-holds c = (omega arith, c .pre, refl)
@@ -38,7 +39,7 @@ returns : tie.Need-returns Inv-loop μ-loop
 returns c =
     let at = c .before .loop in
     let numbers = c .before .before .args .t1 in
-    let e : at .i ≡ 13 = omega arith in
+    let e : at .i ≡ fieldsMost = omega arith in
     sym (take-all (at .i) (at .v) (omega arith)) ∙ at .inv .2 ∙ take-all (at .i) numbers (omega arith)
 
 pub lay-spec : {M : Type 1} → statement M

@@ -11,6 +11,7 @@ use lib.Seq.{take-suc, take-suc-set, take-all}
 use mir.Facts.{toZ-ofZ}
 use mir.Syntax.{w64}
 use mir.Val.{toZ, ofZ}
+use Rattle.sheet.specs.Quantities.{fieldsMost}
 use Rattle.limits.specs.declared.Number.{Number}
 use Rattle.due.specs.Taking.{plainNumbers}
 use Rattle.due.proofs.numbers.Statement.{statement}
@@ -25,10 +26,10 @@ one-more r v i x h k e q =
     (map-append (λ n. n .0) (take i r) (record { 0 = x } ∷ []))
 
 abbrev Inv-loop : tie.InvT-loop
-Inv-loop v r₀ i₀ r i = (i ≤ 13) × (length r ≡ 13) × (plainNumbers (take i r) ≡ take i v)
+Inv-loop v r₀ i₀ r i = (i ≤ fieldsMost) × (length r ≡ fieldsMost) × (plainNumbers (take i r) ≡ take i v)
 
 abbrev μ-loop : tie.MeasureT-loop
-μ-loop v r₀ i₀ r i = 13 - i
+μ-loop v r₀ i₀ r i = fieldsMost - i
 
 loop-holds : tie.Need-loop-holds Inv-loop μ-loop
 loop-holds c = (omega arith, refl, refl)
@@ -44,7 +45,7 @@ returns : tie.Need-returns Inv-loop μ-loop
 returns c =
     let at = c .before .loop in
     let v = c .before .before .args .t1 in
-    let e : at .i ≡ 13 = omega arith in
+    let e : at .i ≡ fieldsMost = omega arith in
     sym (ap plainNumbers (take-all (at .i) (at .r) (omega arith))) ∙ at .inv .2 ∙ take-all (at .i) v (omega arith)
 
 pub numbers-spec : {M : Type 1} → statement M

@@ -4,6 +4,7 @@ use mathlib.Core.Logic.{⊎-elim}
 use native.Mathlib.Omega.{arith}
 use lib.ListN.{length}
 use borrow.Author.Needs.{needs}
+use Rattle.sheet.specs.Quantities.{fieldsMost}
 use Rattle.form.specs.Fields.{accepted}
 use Rattle.form.proofs.Lines.{keyed-line}
 use Rattle.due.proofs.Places.{is-good, is-bad}
@@ -39,7 +40,7 @@ careful-requires : tie.Need-careful-requires
 careful-requires c κs =
     let g = c .before .before in
     let a = start g in
-    let size : length (a .args .v .now) ≡ 13 = ap length (a .pre .1 .1 .1) in
+    let size : length (a .args .v .now) ≡ fieldsMost = ap length (a .pre .1 .1 .1) in
     let kept = ⊎-elim (λ w. ap length (w .4) ∙ w .2 .ensures .long ∙ size) (λ w. ap length (w .1) ∙ size) (c .before .if2 .came) in
     (a .pre .0, (a .pre .1 .0, (is-good (a .args .p) (g .if1 .taken), kept)))
 

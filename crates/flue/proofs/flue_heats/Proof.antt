@@ -11,7 +11,7 @@ use Rattle.sheet.proofs.Sums.{unmapped, blankStage}
 use Rattle.document.specs.Lawful.{StageIn}
 use Rattle.formulas.specs.Rounding.{paper}
 use Rattle.formulas.specs.Formulas.{joule, flueHeat, monoxideHeat}
-use Rattle.document.specs.Quantities.{stagesMost}
+use Rattle.sheet.specs.Quantities.{stagesMost}
 use Rattle.formulas.specs.Sizes.{flueHeatMost, monoxideHeatMost}
 use Rattle.burning.specs.Mixture.{burning as burningOf}
 use Rattle.formulas.proofs.Sums.{each, more-fits, Both, begun, again, ended}

@@ -3,7 +3,7 @@ use mathlib.Core.Path.{_≡_, sym, _∙_, subst}
 use borrow.Author.Needs.{needs}
 use Rattle.limits.proofs.Laws.{passed}
 use Rattle.sheet.specs.Block.{totalGas, stagesOf}
-use Rattle.document.specs.Quantities.{gasTotal}
+use Rattle.sheet.specs.Quantities.{gasTotal}
 use Rattle.document.specs.Lawful.{In}
 use Rattle.formulas.specs.Formulas.{q2}
 use Rattle.heat.proofs.Kept.{own, field}

@@ -7,6 +7,7 @@ use native.Mathlib.Omega.{arith}
 use borrow.Author.Needs.{needs}
 use lib.ListN.{length, take}
 use lib.Seq.{take-length, length-take-le}
+use Rattle.sheet.specs.Quantities.{sheetMost}
 use Rattle.reader.proofs.Answering.{Looked, looked-all, looked-none, opened-ready, judgement}
 use Rattle.reader.proofs.judged.Statement.{statement}
 use Rattle.reader.proofs.judged.Tie as tie
@@ -29,7 +30,7 @@ all-lines-requires c κs =
     let l = looked (c .before) in
     let s = text (c .before) in
     let k = c .before .if1 .looked in
-    let short : length (take k s) ≤ 16384 = omega (arith, length-take-le k s (l .inside), l .few) in
+    let short : length (take k s) ≤ sheetMost = omega (arith, length-take-le k s (l .inside), l .few) in
     opened-ready (length s) (o .result) (o .ensures) (take k s) short
 
 verdict-requires : tie.Need-verdict-requires

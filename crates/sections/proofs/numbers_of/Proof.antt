@@ -8,6 +8,7 @@ use mathlib.Core.List.{List, [], _∷_, map-append}
 use lib.ListN.{length, getD, take, set, length-set}
 use lib.Seq.{take-suc, take-suc-set, take-all}
 use Rattle.sheet.specs.declared.Section.{Section}
+use Rattle.sheet.specs.Quantities.{sectionsMost}
 use Rattle.sections.specs.Sections.{numbers}
 use Rattle.sections.proofs.numbers_of.Statement.{statement}
 use Rattle.sections.proofs.numbers_of.Tie as tie
@@ -20,10 +21,10 @@ one-more r l i d h k q =
     (sym (map-append (λ x. x .number .0) (take i l) (getD l i d ∷ [])))
 
 abbrev Inv-loop : tie.InvT-loop
-Inv-loop sections r₀ i₀ r i = (i ≤ 12) × (length r ≡ 12) × (take i r ≡ numbers (take i sections))
+Inv-loop sections r₀ i₀ r i = (i ≤ sectionsMost) × (length r ≡ sectionsMost) × (take i r ≡ numbers (take i sections))
 
 abbrev μ-loop : tie.MeasureT-loop
-μ-loop sections r₀ i₀ r i = 12 - i
+μ-loop sections r₀ i₀ r i = sectionsMost - i
 
 loop-holds : tie.Need-loop-holds Inv-loop μ-loop
 loop-holds c = (omega arith, refl, refl)
@@ -38,7 +39,7 @@ returns : tie.Need-returns Inv-loop μ-loop
 returns c =
     let at = c .before .loop in
     let l = c .before .before .args .t1 in
-    let e : at .i ≡ 12 = omega arith in
+    let e : at .i ≡ sectionsMost = omega arith in
     sym (take-all (at .i) (at .r) (omega arith)) ∙ at .inv .2 ∙ ap numbers (take-all (at .i) l (omega arith))
 
 pub numbers-of-spec : {M : Type 1} → statement M

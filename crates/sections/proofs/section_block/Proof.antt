@@ -1,6 +1,7 @@
 -- The count line, then so many lines. Assumes nothing.
 use borrow.Author.Needs.{needs}
 use Rattle.text.specs.Bytes.{bytes}
+use Rattle.sheet.specs.Quantities.{sectionsLeast, sectionsMost}
 use Rattle.document.specs.Tests.{section-rule}
 use Rattle.document.specs.Document01.{sectionLine}
 use Rattle.due.proofs.Sequence.{block-after}
@@ -18,7 +19,11 @@ returns c =
     let rows = c .before .before in
     let counted = rows .before .before .before in
     let n = counted .section-count .ensures in
-    record { after = λ seen e. block-after (bytes "sections") 1 12 sectionLine section-rule seen n (rows .section-rows .ensures seen e); within = n .within }
+    let filled = rows .section-rows .ensures in
+    record {
+      after = λ seen e. block-after (bytes "sections") sectionsLeast sectionsMost sectionLine section-rule seen n (filled seen e);
+      within = n .within;
+    }
 
 pub section-block-spec : {M : Type 1} → statement M
 section-block-spec = tie.close (tie.spec (λ c κs. search needs) section-rows-requires returns)

@@ -23,6 +23,7 @@ use Rattle.sections.proofs.Sections.{distinct-none, distinct-more, numb
 use Rattle.due.specs.declared.Place.{Place}
 use Rattle.due.specs.Place.{Ready, After}
 use Rattle.sheet.specs.Blank.{blankSection}
+use Rattle.sheet.specs.Quantities.{sectionsMost}
 use Rattle.sections.specs.Sections.{numbers, SectionsShown}
 use Rattle.due.specs.Block.{lacks}
 use Rattle.due.proofs.Above.{rows-here}
@@ -43,7 +44,7 @@ not-twice : (t : Bool) → when t SectionTwice ≡ none → t ≡ false
 not-twice true e = clash cc
 not-twice false e = refl
 
-one-shown : (i : ℕ) (lines : List Sectionˢ) (rows : List Row) (x : Sectionˢ) (row : Row) → i < 12 → SectionsShown i lines rows
+one-shown : (i : ℕ) (lines : List Sectionˢ) (rows : List Row) (x : Sectionˢ) (row : Row) → i < sectionsMost → SectionsShown i lines rows
     → (section x ≡ sectionOf row) × (sectionFault (map section (take i lines)) (sectionOf row) ≡ none)
     → SectionsShown (i + 1) (set lines i x) (rows ++ (row ∷ []))
 one-shown i lines rows x row h w e =
@@ -51,11 +52,11 @@ one-shown i lines rows x row h w e =
     let n = sectionOf row .number in
     let new : isListed (map sectionOf rows) n ≡ false = ap (λ (T : List Section). isListed T n) (sym (w .filled .shown)) ∙ not-twice (isListed S n) (e .1) in
     record {
-      filled = one-filled section sectionOf blankSection 12 i lines rows x row h (w .filled) (e .0);
+      filled = one-filled section sectionOf blankSection sectionsMost i lines rows x row h (w .filled) (e .0);
       distinct = rw (map-append sectionOf rows (row ∷ [])) (distinct-more (map sectionOf rows) (sectionOf row) (w .distinct) new);
     }
 
-next : (s : List ℕ) (p q q′ : Place) (i : ℕ) (lines : List Sectionˢ) (x : Sectionˢ) (seen : Sheet) → i < 12 → lacks (bytes "section") seen ≡ true
+next : (s : List ℕ) (p q q′ : Place) (i : ℕ) (lines : List Sectionˢ) (x : Sectionˢ) (seen : Sheet) → i < sectionsMost → lacks (bytes "section") seen ≡ true
     → After s p (readRows i sectionLine section-rule seen []) q (SectionsShown i lines)
     → After s q (readLine sectionLine (λ row. sectionFault (map section (take i lines)) (sectionOf row))) q′
     (λ row. (section x ≡ sectionOf row) × (sectionFault (map section (take i lines)) (sectionOf row) ≡ none))
@@ -73,7 +74,7 @@ next s p q q′ i lines x seen h e a b =
 
 abbrev Inv-loop : tie.InvT-loop
 Inv-loop s k ns₀ lines₀ p₀ i₀ ns lines p i =
-    (i ≤ k) × (k ≤ 12) × (length lines ≡ 12) × Ready s p × (ns ≡ numbers lines)
+    (i ≤ k) × (k ≤ sectionsMost) × (length lines ≡ sectionsMost) × Ready s p × (ns ≡ numbers lines)
     × ((seen : Sheet) → lacks (bytes "section") seen ≡ true → After s p₀ (readRows i sectionLine section-rule seen []) p (SectionsShown i lines))
 
 abbrev μ-loop : tie.MeasureT-loop
@@ -82,8 +83,8 @@ abbrev μ-loop : tie.MeasureT-loop
 loop-holds : tie.Need-loop-holds Inv-loop μ-loop
 loop-holds c =
     let a = c .before .before in
-    let none-shown : SectionsShown 0 (replicate 12 blankSection) [] =
-    record { filled = none-filled section sectionOf blankSection 12; distinct = distinct-none } in
+    let none-shown : SectionsShown 0 (replicate sectionsMost blankSection) [] =
+    record { filled = none-filled section sectionOf blankSection sectionsMost; distinct = distinct-none } in
     rw (c .section .ensures) (
       omega arith,
       a .pre .0,

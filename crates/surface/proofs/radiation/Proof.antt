@@ -9,7 +9,7 @@ use mir.Facts.{toZ-ofZ}
 use lib.IntN.{ℤ, pos}
 use Rattle.arith.proofs.Machine.{Known, Mx, raw, num, _⟨+⟩_, _⟨-⟩_, _⟨*⟩_}
 use Rattle.formulas.specs.Formulas.{radiation}
-use Rattle.document.specs.Quantities.{surface}
+use Rattle.sheet.specs.Quantities.{surface}
 use Rattle.formulas.specs.Figures.{Within}
 use Rattle.formulas.specs.Sizes.{greatest}
 use Rattle.surface.specs.Cells.{FourthFits, HotIn}

@@ -1,6 +1,7 @@
 -- The count line, then so many lines. Assumes nothing.
 use borrow.Author.Needs.{needs}
 use Rattle.text.specs.Bytes.{bytes}
+use Rattle.sheet.specs.Quantities.{partsMost}
 use Rattle.document.specs.Tests.{material-rule}
 use Rattle.document.specs.Document01.{partLine}
 use Rattle.due.proofs.Sequence.{block-after}
@@ -17,7 +18,7 @@ returns : tie.Need-returns
 returns c seen =
     let rows = c .before .before in
     let counted = rows .before .before .before in
-    block-after (bytes "parts") 0 32 partLine (material-rule 1) seen (counted .part-count .ensures) (rows .part-rows .ensures seen)
+    block-after (bytes "parts") 0 partsMost partLine (material-rule 1) seen (counted .part-count .ensures) (rows .part-rows .ensures seen)
 
 pub part-block-spec : {M : Type 1} → statement M
 part-block-spec = tie.close (tie.spec (λ c κs. search needs) part-rows-requires returns)

@@ -8,12 +8,13 @@ use Rattle.document.specs.Tests.{material-rule}
 use Rattle.document.specs.Document01.{setterLine}
 use Rattle.document.specs.Rows.{setterOf}
 use Rattle.sheet.specs.Blank.{blankSetter}
+use Rattle.sheet.specs.Quantities.{settersMost}
 use Rattle.due.proofs.Fills.{Filling, filling-none, filling-next}
 use Rattle.blocks.proofs.setters.setter_rows.Statement.{statement}
 use Rattle.blocks.proofs.setters.setter_rows.Tie as tie
 
 abbrev Inv-loop : tie.InvT-loop
-Inv-loop s k lines₀ p₀ i₀ lines p i = Filling setter setterOf blankSetter 32 s setterLine (material-rule 2) k p₀ p i lines
+Inv-loop s k lines₀ p₀ i₀ lines p i = Filling setter setterOf blankSetter settersMost s setterLine (material-rule 2) k p₀ p i lines
 
 abbrev μ-loop : tie.MeasureT-loop
 μ-loop s k lines₀ p₀ i₀ lines p i = k - i
@@ -21,7 +22,7 @@ abbrev μ-loop : tie.MeasureT-loop
 loop-holds : tie.Need-loop-holds Inv-loop μ-loop
 loop-holds c =
     let start = c .before .before in
-    rw (c .setter .ensures) (filling-none setter setterOf blankSetter 32 _ setterLine (material-rule 2) _ _ (start .pre .0) (start .pre .1))
+    rw (c .setter .ensures) (filling-none setter setterOf blankSetter settersMost _ setterLine (material-rule 2) _ _ (start .pre .0) (start .pre .1))
 
 setter-line-requires : tie.Need-setter-line-requires Inv-loop μ-loop
 setter-line-requires c κs = c .before .loop .inv .3
@@ -30,7 +31,7 @@ loop-again : tie.Need-loop-again Inv-loop μ-loop
 loop-again c =
     let line = c .before .before in
     let turn = line .before .before in
-    filling-next setter setterOf blankSetter 32 _ setterLine (material-rule 2) _ _ _ _ _ (turn .loop .lines) _ (turn .loop .inv) (omega arith)
+    filling-next setter setterOf blankSetter settersMost _ setterLine (material-rule 2) _ _ _ _ _ (turn .loop .lines) _ (turn .loop .inv) (omega arith)
     (λ above. line .setter-line .ensures)
 
 returns : tie.Need-returns Inv-loop μ-loop

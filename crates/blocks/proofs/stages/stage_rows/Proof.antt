@@ -8,12 +8,13 @@ use Rattle.document.specs.Tests.{free}
 use Rattle.document.specs.Document01.{stageLine}
 use Rattle.document.specs.Rows.{stageOf}
 use Rattle.sheet.specs.Blank.{blankStage}
+use Rattle.sheet.specs.Quantities.{stagesMost}
 use Rattle.due.proofs.Fills.{Filling, filling-none, filling-next}
 use Rattle.blocks.proofs.stages.stage_rows.Statement.{statement}
 use Rattle.blocks.proofs.stages.stage_rows.Tie as tie
 
 abbrev Inv-loop : tie.InvT-loop
-Inv-loop s k lines₀ p₀ i₀ lines p i = Filling stage stageOf blankStage 12 s stageLine free k p₀ p i lines
+Inv-loop s k lines₀ p₀ i₀ lines p i = Filling stage stageOf blankStage stagesMost s stageLine free k p₀ p i lines
 
 abbrev μ-loop : tie.MeasureT-loop
 μ-loop s k lines₀ p₀ i₀ lines p i = k - i
@@ -21,7 +22,7 @@ abbrev μ-loop : tie.MeasureT-loop
 loop-holds : tie.Need-loop-holds Inv-loop μ-loop
 loop-holds c =
     let start = c .before .before in
-    rw (c .stage .ensures) (filling-none stage stageOf blankStage 12 _ stageLine free _ _ (start .pre .0) (start .pre .1))
+    rw (c .stage .ensures) (filling-none stage stageOf blankStage stagesMost _ stageLine free _ _ (start .pre .0) (start .pre .1))
 
 stage-line-requires : tie.Need-stage-line-requires Inv-loop μ-loop
 stage-line-requires c κs = c .before .loop .inv .3
@@ -30,7 +31,7 @@ loop-again : tie.Need-loop-again Inv-loop μ-loop
 loop-again c =
     let line = c .before .before in
     let turn = line .before .before in
-    filling-next stage stageOf blankStage 12 _ stageLine free _ _ _ _ _ (turn .loop .lines) _ (turn .loop .inv) (omega arith)
+    filling-next stage stageOf blankStage stagesMost _ stageLine free _ _ _ _ _ (turn .loop .lines) _ (turn .loop .inv) (omega arith)
     (λ above. line .stage-line .ensures)
 
 returns : tie.Need-returns Inv-loop μ-loop

@@ -1,6 +1,7 @@
 -- The count line, then so many lines. Assumes nothing.
 use borrow.Author.Needs.{needs}
 use Rattle.text.specs.Bytes.{bytes}
+use Rattle.sheet.specs.Quantities.{stagesLeast, stagesMost}
 use Rattle.document.specs.Tests.{free}
 use Rattle.document.specs.Document01.{stageLine, stages}
 use Rattle.due.proofs.Sequence.{block-after}
@@ -21,7 +22,7 @@ returns c =
     let l = rows .stage-rows .ensures in
     let n = counted .stage-count .ensures in
     record {
-      after = block-read (stages .paragraph) stageLine _ (λ seen. block-after (bytes "stages") 1 12 stageLine free seen n (l seen));
+      after = block-read (stages .paragraph) stageLine _ (λ seen. block-after (bytes "stages") stagesLeast stagesMost stageLine free seen n (l seen));
       within = n .within;
     }
 

@@ -4,6 +4,7 @@ use Prim.Native.Nat.{_≤_, _<_, _-_}
 use native.Mathlib.Omega.{arith}
 use borrow.Author.Needs.{needs}
 use Rattle.sheet.specs.Shown.{gas}
+use Rattle.sheet.specs.Quantities.{gases}
 use Rattle.formulas.specs.Sizes.{butaneAir, butaneDry, butaneVapour}
 use Rattle.burning.proofs.Shares.{airs, dries, vapours, so-far, column-next, column-fits, weigh-size, air-is, dry-is, vapour-is}
 use Rattle.burning.proofs.mixture.burning_of.Statement.{statement}
@@ -11,13 +12,13 @@ use Rattle.burning.proofs.mixture.burning_of.Tie as tie
 
 abbrev Inv-loop : tie.InvT-loop
 Inv-loop shares kinds sum₀ i₀ sum i =
-    (i ≤ 13)
+    (i ≤ gases)
     × (sum .air ≡ so-far (λ k. k .air) shares i)
     × (sum .dry ≡ so-far (λ k. k .dry) shares i)
     × (sum .vapour ≡ so-far (λ k. k .vapour) shares i)
 
 abbrev μ-loop : tie.MeasureT-loop
-μ-loop shares kinds sum₀ i₀ sum i = 13 - i
+μ-loop shares kinds sum₀ i₀ sum i = gases - i
 
 -- the loop, from where a gas and its share are read
 abbrev L : tie.After-burning-with-arg Inv-loop μ-loop → tie.At-loop Inv-loop μ-loop
@@ -43,7 +44,7 @@ burning-with-requires c κs =
     let l = L c .loop in
     let s = L c .before in
     let shares = s .args .t1 in
-    let h : l .i < 13 = omega arith in
+    let h : l .i < gases = omega arith in
     record {
       air = column-fits (λ k. k .air) refl shares (l .i) h (l .inv .1) butaneAir (s .pre) tt tt;
       dry = column-fits (λ k. k .dry) refl shares (l .i) h (l .inv .2) butaneDry (s .pre) tt tt;
@@ -60,7 +61,7 @@ loop-again : tie.Need-loop-again Inv-loop μ-loop
 loop-again c =
     let l = L (c .before) .loop in
     let shares = L (c .before) .before .args .t1 in
-    let h : l .i < 13 = omega arith in
+    let h : l .i < gases = omega arith in
     let e = c .burning-with .ensures in (
       omega arith,
       column-next (λ k. k .air) refl shares (l .i) h (l .inv .1) (e .air),
@@ -73,7 +74,7 @@ returns c =
     let s = c .before .before in
     let l = c .before .loop in
     let shares = s .args .t1 in
-    let end : l .i ≡ 13 = omega arith in
+    let end : l .i ≡ gases = omega arith in
     let air = l .inv .1 ∙ ap (so-far (λ k. k .air) shares) end in
     let dry = l .inv .2 ∙ ap (so-far (λ k. k .dry) shares) end in
     let vapour = l .inv .3 ∙ ap (so-far (λ k. k .vapour) shares) end in
@@ -81,9 +82,9 @@ returns c =
     (record {
       is = rw (air-is (gas shares), dry-is (gas shares), vapour-is (gas shares)) refl;
       within = record {
-        air = weigh-size butaneAir airs 13 (s .pre) tt;
-        dry = weigh-size butaneDry dries 13 (s .pre) tt;
-        vapour = weigh-size butaneVapour vapours 13 (s .pre) tt;
+        air = weigh-size butaneAir airs gases (s .pre) tt;
+        dry = weigh-size butaneDry dries gases (s .pre) tt;
+        vapour = weigh-size butaneVapour vapours gases (s .pre) tt;
       };
     })
 

@@ -8,6 +8,7 @@ use lib.Dec.{lit<}
 use lib.IntN.{ℤ, _-ℤ_}
 use Rattle.arith.proofs.Order.{sfits-abs}
 use Rattle.sheet.specs.Shown.{gas}
+use Rattle.sheet.specs.Quantities.{gases}
 use Rattle.formulas.specs.Sizes.{coldMost, riseMost}
 use Rattle.burning.specs.declared.mixture.Kind.{Kind}
 use Rattle.burning.proofs.Shares.{colds, rises, so-far, column-next, column-size, column-fits, weigh-size, heat-is}
@@ -19,10 +20,10 @@ abbrev rise : Kind → ℤ
 rise k = k .hot -ℤ k .cold
 
 abbrev Inv-loop : tie.InvT-loop
-Inv-loop shares kinds sum₀ i₀ sum i = (i ≤ 13) × (sum .cold ≡ so-far (λ k. k .cold) shares i) × (sum .rise ≡ so-far rise shares i)
+Inv-loop shares kinds sum₀ i₀ sum i = (i ≤ gases) × (sum .cold ≡ so-far (λ k. k .cold) shares i) × (sum .rise ≡ so-far rise shares i)
 
 abbrev μ-loop : tie.MeasureT-loop
-μ-loop shares kinds sum₀ i₀ sum i = 13 - i
+μ-loop shares kinds sum₀ i₀ sum i = gases - i
 
 -- the loop, from where a gas and its share are read
 abbrev L : tie.After-warmth-with-arg Inv-loop μ-loop → tie.At-loop Inv-loop μ-loop
@@ -48,7 +49,7 @@ warmth-with-requires c κs =
     let l = L c .loop in
     let s = L c .before in
     let shares = s .args .t1 in
-    let h : l .i < 13 = omega arith in
+    let h : l .i < gases = omega arith in
     record {
       difference = sfits-abs (lt-of-le-of-lt (column-size rise refl shares (l .i) h riseMost tt) (lit< tt));
       cold = column-fits (λ k. k .cold) refl shares (l .i) h (l .inv .1) coldMost (s .pre) tt tt;
@@ -65,7 +66,7 @@ loop-again : tie.Need-loop-again Inv-loop μ-loop
 loop-again c =
     let l = L (c .before) .loop in
     let shares = L (c .before) .before .args .t1 in
-    let h : l .i < 13 = omega arith in
+    let h : l .i < gases = omega arith in
     let e = c .warmth-with .ensures in (
       omega arith,
       column-next (λ k. k .cold) refl shares (l .i) h (l .inv .1) (e .cold),
@@ -77,13 +78,13 @@ returns c =
     let s = c .before .before in
     let l = c .before .loop in
     let shares = s .args .t1 in
-    let end : l .i ≡ 13 = omega arith in
+    let end : l .i ≡ gases = omega arith in
     let cold = l .inv .1 ∙ ap (so-far (λ k. k .cold) shares) end in
     let risen = l .inv .2 ∙ ap (so-far rise shares) end in
     record {
       heat = λ T. rw (cold, risen) (heat-is (gas shares) T);
-      cold = rw cold (weigh-size coldMost colds 13 (s .pre) tt);
-      rise = rw risen (weigh-size riseMost rises 13 (s .pre) tt);
+      cold = rw cold (weigh-size coldMost colds gases (s .pre) tt);
+      rise = rw risen (weigh-size riseMost rises gases (s .pre) tt);
     }
 
 pub warmth-of-spec : {M : Type 1} → statement M

@@ -18,7 +18,7 @@ use Rattle.sheet.specs.Shown.{same}
 use Rattle.sheet.specs.Block.{sum}
 use Rattle.document.specs.Tests.{when, weigh, airWeights, gas-rule}
 use Rattle.document.specs.Schema.{within}
-use Rattle.document.specs.Quantities.{share}
+use Rattle.sheet.specs.Quantities.{share, gases}
 use Rattle.document.specs.Document01.{gasLine}
 use Rattle.document.specs.Rules.{Every}
 use Rattle.document.proofs.Lists.{every-made}
@@ -52,7 +52,7 @@ read-form-requires c κs =
 unburnable-requires : tie.Need-unburnable-requires
 unburnable-requires c κs =
     let t = c .before .before .gas-of in
-    every-made (λ (x : Share). x .0) Small (t .result .gas) (rw (t .ensures .shown) (all-small (c .before .before .before .numbers2 .result) 0 13))
+    every-made (λ (x : Share). x .0) Small (t .result .gas) (rw (t .ensures .shown) (all-small (c .before .before .before .numbers2 .result) 0 gases))
 
 returns : tie.Need-returns
 returns c =
@@ -63,7 +63,7 @@ returns c =
     let f = ranged .before .before .before .read-form in
     let whole : List ℤ → Bool = λ zs. not (same (sum (λ z. z) zs) (pos 10000) && ltZ (pos 0) (weigh airWeights zs)) in
     ruled-line gasLine (n .result) (λ zs. shares (t .result .gas) ≡ zs) (gas-rule []) (u .result) Shares
-    (due-form _ _ _ 13 (f .result) _ (n .result) (lit≤ tt) (n .ensures) (f .ensures)) (t .ensures) (ranged .ranged .ensures)
+    (due-form _ _ _ gases (f .result) _ (n .result) (lit≤ tt) (n .ensures) (f .ensures)) (t .ensures) (ranged .ranged .ensures)
     (λ row h. sym (ap (λ (t : Bool). when t Shares) (u .ensures ∙ ap whole h))) (c .ruled .ensures)
 
 pub gas-line-spec : {M : Type 1} → statement M

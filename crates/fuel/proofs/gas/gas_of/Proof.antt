@@ -11,7 +11,7 @@ use lib.Seq.{take-suc-set, take-all}
 use Rattle.limits.specs.Checked.{Measured}
 use Rattle.limits.specs.declared.Number.{Number}
 use Rattle.quantity.specs.declared.gas.Share.{Share}
-use Rattle.document.specs.Quantities.{share}
+use Rattle.sheet.specs.Quantities.{share, gases}
 use Rattle.due.specs.Taking.{from}
 use Rattle.fuel.specs.Fuel.{shares}
 use Rattle.due.proofs.Chain.{Chain, done, taken, chain-snoc, from-end, replicate-end}
@@ -28,10 +28,10 @@ one-more v gas x i fault after h c m =
     rw (add-one i, replicate-end i share, from-end v 0 i, e, take-suc-set gas i x h, map-append (λ (y : Share). y .0) (take i gas) (x ∷ [])) (chain-snoc c k m)
 
 abbrev Inv-loop : tie.InvT-loop
-Inv-loop v gas₀ fault₀ i₀ gas fault i = (i ≤ 13) × (length gas ≡ 13) × Chain 0 1 (replicate i share) (from 0 i v) (shares (take i gas)) fault
+Inv-loop v gas₀ fault₀ i₀ gas fault i = (i ≤ gases) × (length gas ≡ gases) × Chain 0 1 (replicate i share) (from 0 i v) (shares (take i gas)) fault
 
 abbrev μ-loop : tie.MeasureT-loop
-μ-loop v gas₀ fault₀ i₀ gas fault i = 13 - i
+μ-loop v gas₀ fault₀ i₀ gas fault i = gases - i
 
 loop-holds : tie.Need-loop-holds Inv-loop μ-loop
 loop-holds c = (omega arith, refl, done)
@@ -50,8 +50,8 @@ loop-again c =
 returns : tie.Need-returns Inv-loop μ-loop
 returns c =
     let at = c .before .loop in
-    let e : at .i ≡ 13 = omega arith in
-    let t = rw (e, take-all 13 (at .gas) (omega arith)) at (at .inv .2) in
+    let e : at .i ≡ gases = omega arith in
+    let t = rw (e, take-all gases (at .gas) (omega arith)) at (at .inv .2) in
     taken (λ (l : List ℤ). l) t
 
 pub gas-of-spec : {M : Type 1} → statement M

@@ -12,6 +12,7 @@ use Rattle.arith.proofs.Int.{one-*ℤ}
 use Rattle.quantity.specs.declared.gas.Share.{Share}
 use Rattle.sheet.specs.Shown.{same}
 use Rattle.sheet.specs.Block.{sum}
+use Rattle.sheet.specs.Quantities.{gases}
 use Rattle.document.specs.Tests.{weigh, airWeights}
 use Rattle.fuel.specs.Fuel.{shares}
 use Rattle.fuel.proofs.gas.unburnable.Statement.{statement}
@@ -28,12 +29,12 @@ weigh-ones (suc n) (z ∷ zs) h = ap₂ _+ℤ_ (one-*ℤ z) (weigh-ones n zs (om
 joined : (full burns : Bool) (t u : Bool) → full ≡ t → burns ≡ u → not (full && burns) ≡ not (t && u)
 joined full burns t u e f = rw (e, f)
 
-module _ (gas : List Share) (few : length gas ≡ 13) {total air : ℤ} {full burns : Bool}
-    (s : total ≡ weigh (replicate 13 (pos 1)) (shares gas)) (a : air ≡ weigh airWeights (shares gas))
+module _ (gas : List Share) (few : length gas ≡ gases) {total air : ℤ} {full burns : Bool}
+    (s : total ≡ weigh (replicate gases (pos 1)) (shares gas)) (a : air ≡ weigh airWeights (shares gas))
     (f : full ≡ same total (pos 10000)) (b : burns ≡ ltZ (pos 0) air) where
   tests : not (full && burns) ≡ not (same (sum (λ z. z) (shares gas)) (pos 10000) && ltZ (pos 0) (weigh airWeights (shares gas)))
   tests =
-      let one = weigh-ones 13 (shares gas) (omega (arith, length-map gas (λ (x : Share). x .0))) in
+      let one = weigh-ones gases (shares gas) (omega (arith, length-map gas (λ (x : Share). x .0))) in
       joined full burns _ _ (f ∙ ap (λ (z : ℤ). same z (pos 10000)) (s ∙ one)) (b ∙ ap (λ (z : ℤ). ltZ (pos 0) z) a)
 
 -- the definition's test by the code's two

@@ -9,6 +9,7 @@ use lib.IntN.{ℤ, pos, natAbs, _+ℤ_, _*ℤ_, +ℤ-assoc, +ℤ-idl}
 use lib.ListN.{length, getD, drop, List·getD-map, length-map, drop-of-length-le}
 use lib.Seq.{drop-cons}
 use mir.Syntax.{w32, w64}
+use Rattle.sheet.specs.Quantities.{gases}
 use Rattle.arith.proofs.Ring.{v, #, _⊕_, ring}
 use Rattle.arith.proofs.Order.{abs-add}
 use Rattle.arith.proofs.Machine.{Known, small, arg, from, _⟨+⟩_, _⟨*⟩_, fits, result, bound}
@@ -22,10 +23,10 @@ use Rattle.fuel.proofs.gas.weighed.Tie as tie
 
 abbrev Inv-loop : tie.InvT-loop
 Inv-loop gas weights sum₀ i₀ sum i =
-    (i ≤ 13) × (natAbs (sum .0) ≤ i * 130000) × (sum .0 +ℤ weigh (drop i weights) (drop i (shares gas)) ≡ weigh weights (shares gas))
+    (i ≤ gases) × (natAbs (sum .0) ≤ i * 130000) × (sum .0 +ℤ weigh (drop i weights) (drop i (shares gas)) ≡ weigh weights (shares gas))
 
 abbrev μ-loop : tie.MeasureT-loop
-μ-loop gas weights sum₀ i₀ sum i = 13 - i
+μ-loop gas weights sum₀ i₀ sum i = gases - i
 
 weigh-step : (ws : List ℤ) (gas : List Share) (i : ℕ) → i < length ws → i < length gas
     → weigh (drop i ws) (drop i (shares gas)) ≡ getD ws i (pos 0) *ℤ getD gas i (record { 0 = pos 0 }) .0 +ℤ weigh (drop (i + 1) ws) (drop (i + 1) (shares gas))
@@ -34,7 +35,7 @@ weigh-step ws gas i h k =
     let e : getD (shares gas) i (pos 0) ≡ getD gas i (record { 0 = pos 0 }) .0 = List·getD-map (λ (x : Share). x .0) gas i (record { 0 = pos 0 }) in
     rw (add-one i, drop-cons ws i (pos 0) h, drop-cons (shares gas) i (pos 0) n, e)
 
-module _ (gas : List Share) (weights : List ℤ) (sum : ℤ) (i : ℕ) (h : i < 13) (few : length gas ≡ 13) (few′ : length weights ≡ 13)
+module _ (gas : List Share) (weights : List ℤ) (sum : ℤ) (i : ℕ) (h : i < gases) (few : length gas ≡ gases) (few′ : length weights ≡ gases)
     (each : Every (λ x. natAbs (x .0) ≤ 10000) gas) (light : Every (λ w. natAbs w ≤ 13) weights) (low : natAbs sum ≤ i * 130000) where
   abbrev ks : List Known
   ks =
@@ -86,7 +87,7 @@ returns : tie.Need-returns Inv-loop μ-loop
 returns c =
     let at = c .before .loop in
     let a = c .before .before .args in
-    let e : at .i ≡ 13 = omega arith in
+    let e : at .i ≡ gases = omega arith in
     let none : drop (at .i) (a .t2) ≡ [] = drop-of-length-le (a .t2) {i = at .i} (omega arith) in
     ring (at .sum .0 ∷ []) (v 0) (v 0 ⊕ # 0) tt ∙ rw none at (at .inv .2)
 

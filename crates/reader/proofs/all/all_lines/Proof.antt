@@ -4,6 +4,7 @@ use mathlib.Core.Path.{_≡_, sym, _∙_}
 use mathlib.Core.List.{List, map}
 use lib.ListN.{length, length-map}
 use borrow.Author.Needs.{needs}
+use Rattle.sheet.specs.Quantities.{gases}
 use Rattle.reader.proofs.Held.{lines-after}
 use Rattle.reader.proofs.all.all_lines.Statement.{statement}
 use Rattle.reader.proofs.all.all_lines.Tie as tie
@@ -26,7 +27,7 @@ closing-line-requires c κs =
 unmapped : {A B : Type 0} (f : A → B) (l : List A) (n : ℕ) → length (map f l) ≡ n → length l ≡ n
 unmapped f l n e = sym (length-map l f) ∙ e
 
-gas-long : (c : tie.After-fuelling-lines) → length (c .fuelling-lines .result .gas) ≡ 13
+gas-long : (c : tie.After-fuelling-lines) → length (c .fuelling-lines .result .gas) ≡ gases
 gas-long c = search (needs, unmapped)
 
 returns : tie.Need-returns

@@ -10,7 +10,7 @@ use Rattle.limits.specs.Checked.{Measured, inRange, firstFault}
 use Rattle.sheet.specs.declared.Sheet.{Sheet}
 use Rattle.sheet.specs.declared.Refusal.the-variants.{Surplus, Missing, GasTotal}
 use Rattle.document.specs.Schema.{within}
-use Rattle.document.specs.Quantities.{gasTotal}
+use Rattle.sheet.specs.Quantities.{gasTotal}
 use Rattle.walls.specs.Cells.{allRead}
 use Rattle.due.specs.declared.Place.{Place}
 use Rattle.due.specs.Place.{good, refusedAt}

@@ -18,6 +18,7 @@ use Rattle.sheet.specs.Block.{sum}
 use Rattle.sheet.proofs.Sums.{first, next, unmapped, held, blankStage}
 use Rattle.sheet.proofs.block.total_gas.Statement.{statement}
 use Rattle.sheet.proofs.block.total_gas.Tie as tie
+use Rattle.sheet.specs.Quantities.{stagesMost}
 
 abbrev gas : Stage → ℤ
 gas x = x .gas
@@ -55,7 +56,7 @@ narrow : (c : tie.After-struct-told Inv-loop μ-loop) → SFits w32 (line c .gas
 narrow c = search needs
 
 abbrev known : tie.After-struct-told Inv-loop μ-loop → List Known
-known c = whole (narrow c) ∷ small (turn c .loop .sum .0) {B = 12 * 2 ^ 31} (omega (arith, turn c .loop .inv .2)) ∷ []
+known c = whole (narrow c) ∷ small (turn c .loop .sum .0) {B = stagesMost * 2 ^ 31} (omega (arith, turn c .loop .inv .2)) ∷ []
 
 cast-t13 : tie.Need-cast-t13 Inv-loop μ-loop
 cast-t13 c = fits (known c) w64 (from w32 (arg 0)) tt
@@ -69,7 +70,7 @@ add-i c = search needs
 loop-less : tie.Need-loop-less Inv-loop μ-loop
 loop-less c = search needs
 
-long : (s : tie.Start Inv-loop μ-loop) → length (s .args .stages .lines) ≡ 12
+long : (s : tie.Start Inv-loop μ-loop) → length (s .args .stages .lines) ≡ stagesMost
 long s = search (needs, unmapped)
 
 loop-again : tie.Need-loop-again Inv-loop μ-loop
@@ -89,7 +90,7 @@ returns c =
     let at = c .before .loop in
     let lines = start (c .before) .args .stages .lines in
     let n = start (c .before) .args .stages .count .0 in
-    let e : at .i ≡ min n 12 = omega arith in
+    let e : at .i ≡ min n stagesMost = omega arith in
     let all = ap (λ (j : ℕ). take j lines) e ∙ held lines n (long (start (c .before))) in
     at .inv .0 ∙ ap (λ (l : List Stageˢ). sum gas (map stage l)) all
 

@@ -10,7 +10,7 @@ use Rattle.sheet.specs.declared.Part.{Part as Partˢ}
 use Rattle.sheet.specs.Firing.{Part}
 use Rattle.sheet.specs.Shown.{part}
 use Rattle.sheet.proofs.Sums.{unmapped}
-use Rattle.document.specs.Quantities.{partsMost}
+use Rattle.sheet.specs.Quantities.{partsMost}
 use Rattle.document.specs.Lawful.{PartIn}
 use Rattle.formulas.specs.Rounding.{paper}
 use Rattle.formulas.specs.Formulas.{joule, sensible, q8, x10}

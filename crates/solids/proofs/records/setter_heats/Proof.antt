@@ -10,7 +10,7 @@ use Rattle.sheet.specs.declared.Setter.{Setter as Setterˢ}
 use Rattle.sheet.specs.Firing.{Setter}
 use Rattle.sheet.specs.Shown.{setter}
 use Rattle.sheet.proofs.Sums.{unmapped}
-use Rattle.document.specs.Quantities.{settersMost}
+use Rattle.sheet.specs.Quantities.{settersMost}
 use Rattle.document.specs.Lawful.{SetterIn}
 use Rattle.formulas.specs.Rounding.{paper}
 use Rattle.formulas.specs.Formulas.{joule, sensible, q3, x5}

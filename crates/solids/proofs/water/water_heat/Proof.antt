@@ -5,7 +5,7 @@ use borrow.Author.Needs.{needs}
 use lib.Dec.{lit≤}
 use lib.IntN.{ℤ, pos}
 use Rattle.arith.proofs.Machine.{Mx, upto, raw, num, _⟨+⟩_, _⟨-⟩_, _⟨*⟩_}
-use Rattle.document.specs.Quantities.{temperature}
+use Rattle.sheet.specs.Quantities.{temperature}
 use Rattle.document.specs.Lawful.{In}
 use Rattle.solids.specs.Steps.{BoiledFits}
 use Rattle.formulas.specs.Formulas.{joule, waterHeat}

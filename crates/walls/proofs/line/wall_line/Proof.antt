@@ -8,7 +8,7 @@ use Rattle.limits.specs.declared.Number.{Number}
 use Rattle.limits.proofs.Laws.{CountBetween, count-within}
 use Rattle.sheet.specs.Firing.{Wall}
 use Rattle.document.specs.Schema.{plain}
-use Rattle.document.specs.Quantities.{stageNumber}
+use Rattle.sheet.specs.Quantities.{stageNumber}
 use Rattle.document.specs.Document01.{wallLine}
 use Rattle.document.specs.Rows.{wallOf}
 use Rattle.walls.specs.declared.line.Wall.{Wall as Wallˢ}

@@ -1,8 +1,49 @@
--- The quantities of the sheet: the least and the greatest of each, in the units of document 01
+-- The quantities of the sheet: the least and the greatest of each, in the units of document 01, and how much a sheet can hold.
 use Prim.Native.Nat.{ℕ}
-use lib.IntN.{pos, negℤ}
-use Rattle.document.specs.Schema.{Field}
-use Rattle.document.specs.Reader.{to}
+use lib.IntN.{ℤ, pos, negℤ}
+
+-- A field has a least and a greatest value.
+pub record Field : Type 0 where
+  pub least : ℤ
+  pub greatest : ℤ
+
+-- from a to b, both whole numbers
+abbrev pub to : ℕ → ℕ → Field
+to a b = record { least = pos a; greatest = pos b }
+
+-- how many lines a block has, where there must be some, and how many it has at most
+abbrev pub stagesLeast : ℕ
+stagesLeast = 1
+
+abbrev pub sectionsLeast : ℕ
+sectionsLeast = 1
+
+abbrev pub stagesMost : ℕ
+stagesMost = 12
+
+abbrev pub settersMost : ℕ
+settersMost = 32
+
+abbrev pub partsMost : ℕ
+partsMost = 32
+
+abbrev pub sectionsMost : ℕ
+sectionsMost = 12
+
+abbrev pub wallsMost : ℕ
+wallsMost = 48
+
+-- how many gases the shares of a fuel tell of
+abbrev pub gases : ℕ
+gases = 13
+
+-- how many fields a line has at most: the widest is that of the gases
+abbrev pub fieldsMost : ℕ
+fieldsMost = gases
+
+-- how many bytes a sheet has at most
+abbrev pub sheetMost : ℕ
+sheetMost = 16384
 
 abbrev pub minus : ℕ → ℕ → Field
 minus a b = record { least = negℤ (pos a); greatest = pos b }
@@ -71,7 +112,7 @@ abbrev pub area : Field
 area = to 1 20000
 
 abbrev pub stageNumber : Field
-stageNumber = to 1 12
+stageNumber = to 1 stagesMost
 
 abbrev pub surface : Field
 surface = minus 200 3000
@@ -81,19 +122,3 @@ nearAir = minus 200 500
 
 abbrev pub gasTotal : Field
 gasTotal = to 100 200000
-
--- how many lines a block has at most
-abbrev pub stagesMost : ℕ
-stagesMost = 12
-
-abbrev pub settersMost : ℕ
-settersMost = 32
-
-abbrev pub partsMost : ℕ
-partsMost = 32
-
-abbrev pub sectionsMost : ℕ
-sectionsMost = 12
-
-abbrev pub wallsMost : ℕ
-wallsMost = 48
