@@ -18,6 +18,7 @@ pub mod Plain
 pub mod Numbering
 pub mod Document01
 pub mod Editions
+pub mod Blanks
 pub mod Readings
 pub mod Example
 pub mod KeyRules

@@ -37,9 +37,9 @@ held l n {most} e = go (decLe n most)
     go (yes p) = let k : min n most ≡ n = omega arith in rw k
     go (no f) = let k : min n most ≡ length l = omega arith in let h : length l ≤ n = omega arith in rw k (take-length l ∙ sym (take-all n l h))
 
--- what stands in an array where no stage was read
-abbrev pub blankStage : Stageˢ
-blankStage = record {
+-- what is said to stand beyond the end of an array of stages: 0 in every field
+abbrev pub stageBeyond : Stageˢ
+stageBeyond = record {
   gas = record { 0 = pos 0 };
   excess = record { 0 = pos 0 };
   flue = record { 0 = pos 0 };

@@ -1,5 +1,5 @@
--- What stands in a struct where nothing was read: 0 in every field.
-use lib.IntN.{pos}
+-- What stands in a struct where nothing was read: 0 in every field, or the least of its quantity where that is above 0.
+use lib.IntN.{pos, natAbs}
 use lib.ListN.{replicate}
 use Rattle.sheet.specs.declared.Stuff.{Stuff}
 use Rattle.sheet.specs.declared.Stage.{Stage}
@@ -9,7 +9,7 @@ use Rattle.sheet.specs.declared.Section.{Section}
 use Rattle.sheet.specs.declared.Head.{Head}
 use Rattle.sheet.specs.declared.Sheet.{Sheet}
 use Rattle.sheet.specs.Shown.{unread}
-use Rattle.sheet.specs.Quantities.{gases, stagesMost, settersMost, partsMost, sectionsMost}
+use Rattle.sheet.specs.Quantities.{gases, stagesMost, settersMost, partsMost, sectionsMost, edition, firing, product, heating, excess, minutes, sectionNumber, place, area, stagesLeast, sectionsLeast}
 
 abbrev pub blankStuff : Stuff
 blankStuff = record { material = record { 0 = 0 }; c = record { 0 = pos 0 } }
@@ -17,10 +17,10 @@ blankStuff = record { material = record { 0 = 0 }; c = record { 0 = pos 0 } }
 abbrev pub blankStage : Stage
 blankStage = record {
   gas = record { 0 = pos 0 };
-  excess = record { 0 = pos 0 };
+  excess = record { 0 = excess .least };
   flue = record { 0 = pos 0 };
   co = record { 0 = pos 0 };
-  minutes = record { 0 = pos 0 };
+  minutes = record { 0 = minutes .least };
 }
 
 abbrev pub blankSetter : Setter
@@ -30,15 +30,15 @@ abbrev pub blankPart : Part
 blankPart = record { mass = record { 0 = pos 0 }; stuff = blankStuff; before = record { 0 = pos 0 }; firing = record { 0 = pos 0 } }
 
 abbrev pub blankSection : Section
-blankSection = record { number = record { 0 = 0 }; place = record { 0 = 0 }; area = record { 0 = pos 0 } }
+blankSection = record { number = record { 0 = natAbs (sectionNumber .least) }; place = record { 0 = natAbs (place .least) }; area = record { 0 = area .least } }
 
 abbrev pub blankHead : Head
 blankHead = record {
-  edition = record { 0 = 0 };
-  firing = record { 0 = pos 0 };
-  product = record { 0 = pos 0 };
+  edition = record { 0 = natAbs (edition .least) };
+  firing = record { 0 = firing .least };
+  product = record { 0 = product .least };
   ambient = record { 0 = pos 0 };
-  fuel = record { heating = record { 0 = pos 0 }; temperature = record { 0 = pos 0 } };
+  fuel = record { heating = record { 0 = heating .least }; temperature = record { 0 = pos 0 } };
   gas = replicate gases (record { 0 = pos 0 });
   moisture = record { 0 = pos 0 };
   ware = record { green = record { 0 = pos 0 }; entry = record { 0 = pos 0 }; highest = record { 0 = pos 0 }; stuff = blankStuff };
@@ -49,9 +49,9 @@ blankHead = record {
 abbrev pub blankSheet : Sheet
 blankSheet = record {
   head = blankHead;
-  stages = record { count = record { 0 = 0 }; lines = replicate stagesMost blankStage };
+  stages = record { count = record { 0 = stagesLeast }; lines = replicate stagesMost blankStage };
   setters = record { count = record { 0 = 0 }; lines = replicate settersMost blankSetter };
   parts = record { count = record { 0 = 0 }; lines = replicate partsMost blankPart };
-  sections = record { count = record { 0 = 0 }; lines = replicate sectionsMost blankSection };
+  sections = record { count = record { 0 = sectionsLeast }; lines = replicate sectionsMost blankSection };
   readings = replicate 144 unread;
 }

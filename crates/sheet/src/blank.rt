@@ -1,4 +1,5 @@
-// What stands in a struct where nothing was read: 0 in every field.
+// What stands in a struct where nothing was read: 0 in every field, or the least of its quantity where that is above 0. So a quantity is
+// never outside its limits.
 ghost use mathlib.Core.Path.{_≡_};
 ghost use Rattle.sheet.specs.Shown.{unread};
 ghost use Rattle.sheet.specs.Blank.{blankStage, blankSetter, blankPart, blankSection, blankHead, blankSheet};
@@ -51,10 +52,10 @@ pub fn stage() -> Stage
 {
     Stage {
         gas: CubicMetres(0),
-        excess: ExcessAir(0),
+        excess: ExcessAir(ExcessAir::LEAST),
         flue: FlueTemperature(0),
         co: CarbonMonoxide(0),
-        minutes: Minutes(0),
+        minutes: Minutes(Minutes::LEAST),
     }
 }
 
@@ -92,9 +93,9 @@ pub fn section() -> Section
     ensures { λ r. ⌜ r ≡ blankSection ⌝ }
 {
     Section {
-        number: SectionNumber(0),
-        place: SectionPlace(0),
-        area: Area(0),
+        number: SectionNumber(SectionNumber::LEAST),
+        place: SectionPlace(SectionPlace::LEAST),
+        area: Area(Area::LEAST),
     }
 }
 
@@ -114,12 +115,12 @@ fn head() -> Head
     ensures { λ r. ⌜ r ≡ blankHead ⌝ }
 {
     Head {
-        edition: Edition(0),
-        firing: FiringNumber(0),
-        product: Product(0),
+        edition: Edition(Edition::LEAST),
+        firing: FiringNumber(FiringNumber::LEAST),
+        product: Product(Product::LEAST),
         ambient: Ambient(0),
         fuel: Fuel {
-            heating: HeatingValue(0),
+            heating: HeatingValue(HeatingValue::LEAST),
             temperature: FuelTemperature(0),
         },
         gas: [Share(0); GASES],
@@ -149,7 +150,7 @@ pub fn sheet() -> Sheet
     Sheet {
         head: head(),
         stages: Stages {
-            count: StageCount(0),
+            count: StageCount(StageCount::LEAST),
             lines: [stage(); StageCount::GREATEST],
         },
         setters: Setters {
@@ -161,7 +162,7 @@ pub fn sheet() -> Sheet
             lines: [part(); PartCount::GREATEST],
         },
         sections: Sections {
-            count: SectionCount(0),
+            count: SectionCount(SectionCount::LEAST),
             lines: [section(); SectionCount::GREATEST],
         },
         readings: [reading(); 144],

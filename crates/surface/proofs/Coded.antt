@@ -14,7 +14,7 @@ use Rattle.sheet.specs.declared.Sections.{Sections}
 use Rattle.sheet.specs.declared.Stages.{Stages}
 use Rattle.sheet.specs.Firing.{Firing}
 use Rattle.sheet.specs.Shown.{stage, section, unread, wasRead}
-use Rattle.sheet.proofs.Sums.{blankStage}
+use Rattle.sheet.proofs.Sums.{stageBeyond}
 use Rattle.document.specs.Lawful.{StageIn, SectionIn}
 use Rattle.document.proofs.Lists.{every-at}
 use Rattle.formulas.specs.Rounding.{paper}
@@ -24,8 +24,8 @@ use Rattle.surface.proofs.Terms.{wallOf}
 use Rattle.surface.proofs.Grid.{sumTo, grid, in-grid}
 use Rattle.surface.proofs.Cells.{heatAt, cell-lies, cell-read, cell-none, cells-total}
 
-abbrev blankSection : Sectionˢ
-blankSection = record { number = record { 0 = 0 }; place = record { 0 = 0 }; area = record { 0 = pos 0 } }
+abbrev sectionBeyond : Sectionˢ
+sectionBeyond = record { number = record { 0 = 0 }; place = record { 0 = 0 }; area = record { 0 = pos 0 } }
 
 -- a line of a block, as the firing shows it
 shown-at : {A B : Type 0} (g : A → B) (l : List A) (n i : ℕ) (d : A) (e : B) → i < length (map g (take n l)) → getD (map g (take n l)) i e ≡ g (getD l i d)
@@ -44,7 +44,7 @@ shown-length g (suc n) (a ∷ l) = omega (arith, shown-length g n l)
 -- the heat of a section in a stage, as the code forms it
 abbrev pub coded : List Reading → List Sectionˢ → List Stageˢ → ℕ → ℕ → ℤ
 coded readings places times i j =
-    wallHeat paper (section (getD places i blankSection)) (stage (getD times j blankStage)) (wallOf (getD readings (i * 12 + j) unread))
+    wallHeat paper (section (getD places i sectionBeyond)) (stage (getD times j stageBeyond)) (wallOf (getD readings (i * 12 + j) unread))
 
 module _ {readings : List Reading} {x : Sections} {y : Stages} {f : Firing} (seen : Seen readings x y f)
     (long : length (x .lines) ≡ 12) (wide : length (y .lines) ≡ 12) where
@@ -64,14 +64,14 @@ module _ {readings : List Reading} {x : Sections} {y : Stages} {f : Firing} (see
     read : wasRead (getD readings (i * 12 + j) unread) ≡ true
     read = rw (seen .laid) (cell-read f (seen .rules) i j here there)
 
-    section-at : getD (f .sections) i noSection ≡ section (getD (x .lines) i blankSection)
-    section-at = rw (seen .sections) (shown-at section (x .lines) (x .count .0) i blankSection noSection (rw (seen .sections) at here))
+    section-at : getD (f .sections) i noSection ≡ section (getD (x .lines) i sectionBeyond)
+    section-at = rw (seen .sections) (shown-at section (x .lines) (x .count .0) i sectionBeyond noSection (rw (seen .sections) at here))
 
-    stage-at : getD (f .stages) j noStage ≡ stage (getD (y .lines) j blankStage)
-    stage-at = rw (seen .stages) (shown-at stage (y .lines) (y .count .0) j blankStage noStage (rw (seen .stages) at there))
+    stage-at : getD (f .stages) j noStage ≡ stage (getD (y .lines) j stageBeyond)
+    stage-at = rw (seen .stages) (shown-at stage (y .lines) (y .count .0) j stageBeyond noStage (rw (seen .stages) at there))
 
     -- what is asked of a cell
-    pub cell-in : LostIn (getD readings (i * 12 + j) unread) (section (getD (x .lines) i blankSection)) (stage (getD (y .lines) j blankStage))
+    pub cell-in : LostIn (getD readings (i * 12 + j) unread) (section (getD (x .lines) i sectionBeyond)) (stage (getD (y .lines) j stageBeyond))
     cell-in =
         let lies = rw (sym (seen .laid)) at (cell-lies f (seen .rules) (i * 12 + j) (cell-read f (seen .rules) i j here there)) in
         let section = every-at SectionIn (f .sections) i noSection (seen .rules .sections) here in

@@ -7,7 +7,7 @@ use borrow.Author.Needs.{needs}
 use lib.ListN.{length, getD}
 use Rattle.sheet.specs.declared.Stage.{Stage as Stageˢ}
 use Rattle.sheet.specs.Shown.{stage}
-use Rattle.sheet.proofs.Sums.{unmapped, blankStage}
+use Rattle.sheet.proofs.Sums.{unmapped, stageBeyond}
 use Rattle.document.specs.Lawful.{StageIn}
 use Rattle.formulas.specs.Rounding.{paper}
 use Rattle.formulas.specs.Formulas.{joule, flueHeat, monoxideHeat}
@@ -33,8 +33,8 @@ lines s = s .args .stages .lines
 long : (s : tie.Start Inv-loop μ-loop) → length (lines s) ≡ stagesMost
 long s = search (needs, unmapped)
 
-kept : (s : tie.Start Inv-loop μ-loop) (i : ℕ) → i < s .args .stages .count .0 → i < stagesMost → StageIn (stage (getD (lines s) i blankStage))
-kept s i h k = each StageIn stage (lines s) (s .args .stages .count .0) i blankStage (s .pre .stages) h (omega (arith, long s))
+kept : (s : tie.Start Inv-loop μ-loop) (i : ℕ) → i < s .args .stages .count .0 → i < stagesMost → StageIn (stage (getD (lines s) i stageBeyond))
+kept s i h k = each StageIn stage (lines s) (s .args .stages .count .0) i stageBeyond (s .pre .stages) h (omega (arith, long s))
 
 loop-again : tie.Need-loop-again Inv-loop μ-loop
 loop-again c =
@@ -43,7 +43,7 @@ loop-again c =
     let s = l .before .before .before in
     let inside : l .loop .i < length (lines s) = omega (arith, long s) in
     let stage = h .stage-heats .ensures in
-    (omega arith, again blankStage inside (l .loop .inv .1) (stage .0) (stage .1) (c .before .plus .ensures) (c .plus2 .ensures))
+    (omega arith, again stageBeyond inside (l .loop .inv .1) (stage .0) (stage .1) (c .before .plus .ensures) (c .plus2 .ensures))
 
 stage-heats-requires : tie.Need-stage-heats-requires Inv-loop μ-loop
 stage-heats-requires c κs =

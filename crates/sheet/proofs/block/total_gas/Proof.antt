@@ -15,7 +15,7 @@ use Rattle.sheet.specs.declared.Stage.{Stage as Stageˢ}
 use Rattle.sheet.specs.Firing.{Stage}
 use Rattle.sheet.specs.Shown.{stage}
 use Rattle.sheet.specs.Block.{sum}
-use Rattle.sheet.proofs.Sums.{first, next, unmapped, held, blankStage}
+use Rattle.sheet.proofs.Sums.{first, next, unmapped, held, stageBeyond}
 use Rattle.sheet.proofs.block.total_gas.Statement.{statement}
 use Rattle.sheet.proofs.block.total_gas.Tie as tie
 use Rattle.sheet.specs.Quantities.{stagesMost}
@@ -50,7 +50,7 @@ abbrev turn : tie.After-struct-told Inv-loop μ-loop → tie.At-loop Inv-loop μ
 turn c = let gas = c .before .before in gas .before .before .before
 
 abbrev line : tie.After-struct-told Inv-loop μ-loop → Stageˢ
-line c = getD (start (turn c) .args .stages .lines) (turn c .loop .i) blankStage
+line c = getD (start (turn c) .args .stages .lines) (turn c .loop .i) stageBeyond
 
 narrow : (c : tie.After-struct-told Inv-loop μ-loop) → SFits w32 (line c .gas .0)
 narrow c = search needs
@@ -78,7 +78,7 @@ loop-again c =
     let told = c .before .before in
     let at = turn told .loop in
     let s = start (turn told) in
-    let more = next gas stage (s .args .stages .lines) (at .i) blankStage (omega (arith, long s)) in
+    let more = next gas stage (s .args .stages .lines) (at .i) stageBeyond (omega (arith, long s)) in
     rw (result (known told) w64 (arg 1 ⟨+⟩ from w32 (arg 0)) tt) (
       ap (λ (y : ℤ). y +ℤ line told .gas .0) (at .inv .0) ∙ sym (ap (first gas stage (s .args .stages .lines)) (add-one (at .i)) ∙ more),
       omega arith,
