@@ -50,7 +50,7 @@ _Static_assert(ITEMS == 20, "a report has 20 lines");
 /* What the clerk can do something about, in the clerk's words. */
 static const char *const refusals[] = {
     [HALLVISKA_TOO_LONG] = "the sheet is longer than 16,384 bytes",
-    [HALLVISKA_FORM] = "this is not the line that is due here, or it is not written as it should be",
+    [HALLVISKA_FORM] = "this is not the line that is due here, or it has too few or too many numbers",
     [HALLVISKA_RANGE] = "a number is too small or too great",
     [HALLVISKA_MATERIAL] = "a listed material has its own specific heat, and material 0 needs one",
     [HALLVISKA_GAS] = "the shares of the gas do not add to 100 %, or it would burn without air",
@@ -60,6 +60,8 @@ static const char *const refusals[] = {
     [HALLVISKA_COLDER] = "the surface is colder than the air near it",
     [HALLVISKA_TOTAL_GAS] = "the gas of all stages is less than 10 or more than 20,000 cubic metres",
     [HALLVISKA_NO_ROOM] = "the report is longer than this screen's room for it",
+    [HALLVISKA_NUMBER] = "this is not written as a number should be",
+    [HALLVISKA_TORN] = "the sheet ends before this line does, or goes on after its end",
 };
 
 /* Fourteen digits are more than any firing has, and times 20,000 they still fit 64 bits, which `share` needs. */
@@ -140,13 +142,58 @@ static void show(const int64_t numbers[ITEMS])
     }
 }
 
-static void show_refusal(struct hallviska_answer answer)
+/* Some bytes of the sheet, from `begin` up to but without `end`. */
+struct piece {
+    const uint8_t *begin, *end;
+};
+
+/* The piece of this number, counted from 1, where these bytes are parted by `between`. One that is not there is empty, at the end. */
+static struct piece part(struct piece whole, int between, uint32_t number)
+{
+    const uint8_t *at;
+    for (; number > 1 && whole.begin < whole.end; number--) {
+        at = memchr(whole.begin, between, (size_t)(whole.end - whole.begin));
+        whole.begin = at ? at + 1 : whole.end;
+    }
+    at = memchr(whole.begin, between, (size_t)(whole.end - whole.begin));
+    return (struct piece){whole.begin, at ? at : whole.end};
+}
+
+/* The numbers before the first that is at fault have at most ten characters, so that a line of thirteen is marked before it is cut. */
+enum { SHOWN_MOST = 160 };
+
+/* The sheet's line, and a mark under the field where there is one. An empty field has a mark where it should begin. */
+static void show_line(struct piece line, uint32_t field)
+{
+    size_t length = (size_t)(line.end - line.begin);
+    size_t shown = length < SHOWN_MOST ? length : SHOWN_MOST;
+    if (length == 0)
+        return;
+    printf("  ");
+    for (size_t at = 0; at < shown; at++)
+        putchar(line.begin[at] >= ' ' && line.begin[at] <= '~' ? line.begin[at] : '?');
+    puts(shown < length ? " ..." : "");
+    if (field == 0)
+        return;
+    struct piece marked = part((struct piece){part(line, '=', 2).begin, line.end}, ',', field);
+    size_t from = (size_t)(marked.begin - line.begin), to = (size_t)(marked.end - line.begin);
+    printf("  %*s^", (int)(from < shown ? from : shown), "");
+    while (++from < to && from < shown)
+        putchar('^');
+    putchar('\n');
+}
+
+static void show_refusal(struct hallviska_answer answer, struct piece sheet)
 {
     bool known = answer.refusal < sizeof refusals / sizeof refusals[0] && refusals[answer.refusal];
     printf("Refused (%" PRIu32 ")", answer.refusal);
     if (answer.line != 0)
         printf(", line %" PRIu32, answer.line);
+    if (answer.field != 0)
+        printf(", field %" PRIu32, answer.field);
     printf(": %s.\n", known ? refusals[answer.refusal] : "this screen does not know that number");
+    if (answer.line != 0)
+        show_line(part(sheet, '\n', answer.line), answer.field);
 }
 
 /* One byte more than a sheet may have: a longer file is cut there, and the library refuses it as too long. */
@@ -177,7 +224,7 @@ int main(int argc, char **argv)
     int64_t numbers[ITEMS];
     int status = SHOWN;
     if (answer.refusal != HALLVISKA_ACCEPTED) {
-        show_refusal(answer);
+        show_refusal(answer, (struct piece){sheet, sheet + length});
         status = REFUSED;
     } else if (answer.length > sizeof report || !parse(report, answer.length, numbers)) {
         fputs("the library's report is not one that this screen knows\n", stderr);

@@ -21,7 +21,7 @@ enum { SHEET_LENT = 5 * 4096, REPORT_LENT = 4096, ROOM_MOST = HALLVISKA_REPORT_M
 
 /* What a sheet is due: the answer in a room that is large enough, and the report. */
 struct due {
-    uint32_t refusal, line;
+    uint32_t refusal, line, field;
     size_t length;
     uint8_t report[ROOM_MOST];
 };
@@ -74,7 +74,7 @@ static void call(const uint8_t *sheet, size_t length, const struct due *due, siz
 {
     bool fits = due->refusal != 0 || due->length <= room;
     uint32_t refusal = fits ? due->refusal : HALLVISKA_NO_ROOM;
-    uint32_t line = fits ? due->line : 0;
+    uint32_t line = fits ? due->line : 0, field = fits ? due->field : 0;
     size_t written = fits ? due->length : 0;
     uint8_t *lent_sheet = at_end ? sheet_lent + SHEET_LENT - length : sheet_lent;
     uint8_t *report = at_end ? report_lent + REPORT_LENT - room : report_lent;
@@ -84,9 +84,10 @@ static void call(const uint8_t *sheet, size_t length, const struct due *due, siz
     struct hallviska_answer answer = hallviska_balance(lent_sheet, length, report, room);
     calls++;
 
-    if (answer.refusal != refusal || answer.line != line || answer.length != written)
-        fail("in a room of %zu: refusal %u, line %u, length %zu are due, not %u, %u, %zu", room, (unsigned)refusal, (unsigned)line, written,
-             (unsigned)answer.refusal, (unsigned)answer.line, answer.length);
+    if (answer.refusal != refusal || answer.line != line || answer.field != field || answer.length != written)
+        fail("in a room of %zu: refusal %u, line %u, field %u, length %zu are due, not %u, %u, %u, %zu", room, (unsigned)refusal,
+             (unsigned)line, (unsigned)field, written, (unsigned)answer.refusal, (unsigned)answer.line, (unsigned)answer.field,
+             answer.length);
     if (memcmp(report, due->report, written) != 0)
         fail("in a room of %zu: another report than the one that is due", room);
     if (!all(report_lent, (size_t)(report - report_lent), fill))
@@ -108,19 +109,37 @@ static void try_rooms(const uint8_t *sheet, size_t length, const struct due *due
     }
 }
 
-static struct due refusal(uint32_t number, uint32_t line)
+static struct due refusal(uint32_t number, uint32_t line, uint32_t field)
 {
-    struct due due = {number, line, 0, {0}};
+    struct due due = {number, line, field, 0, {0}};
     return due;
 }
 
-/* Document 01: a sheet that ends too early is refused 2 at the first line that is not complete, and no number has an x in it. */
+/* What is due where an x stands for the byte at this place of a good sheet, in this line and field, the key being field 0: no key and no
+ * number has an x in it. In a key, for `=` and for a comma the line is not the one that is due. Two lines run together have as many fields
+ * as the first only where the second has a single one, and then the first one's last field is no number. */
+static struct due spoiling(const uint8_t *sheet, size_t length, size_t at, uint32_t line, uint32_t field)
+{
+    if (sheet[at] == '\n') {
+        const uint8_t *next = sheet + at + 1, *end = sheet + length;
+        if (next == end)
+            return refusal(HALLVISKA_TORN, line, 0);
+        while (*next != '\n' && *next != ',')
+            next++;
+        return *next == ',' ? refusal(HALLVISKA_FORM, line, 0) : refusal(HALLVISKA_NUMBER, line, field);
+    }
+    if (field == 0 || sheet[at] == ',')
+        return refusal(HALLVISKA_FORM, line, 0);
+    return refusal(HALLVISKA_NUMBER, line, field);
+}
+
+/* A sheet that ends too early is refused 13 at the first line that is not complete. */
 static void try_damaged(const char *name, const uint8_t *sheet, size_t length, size_t needed)
 {
     static uint8_t other[HALLVISKA_SHEET_MOST + 1];
-    uint32_t line = 1;
+    uint32_t line = 1, field = 0;
     for (size_t at = 0; at < length; at++) {
-        struct due due = refusal(HALLVISKA_FORM, line);
+        struct due due = refusal(HALLVISKA_TORN, line, 0);
         snprintf(where, sizeof where, "%s torn at byte %zu", name, at);
         try_rooms(sheet, at, &due, needed);
         torn++;
@@ -128,14 +147,16 @@ static void try_damaged(const char *name, const uint8_t *sheet, size_t length, s
         snprintf(where, sizeof where, "%s spoilt at byte %zu", name, at);
         memcpy(other, sheet, length);
         other[at] = 'x';
+        due = spoiling(sheet, length, at, line, field);
         try_rooms(other, length, &due, needed);
         spoilt++;
         line += sheet[at] == '\n';
+        field = sheet[at] == '\n' ? 0 : field + (sheet[at] == '=' || sheet[at] == ',');
     }
 
     memset(other, '\n', sizeof other);
     memcpy(other, sheet, length);
-    struct due after_end = refusal(HALLVISKA_FORM, line), too_long = refusal(HALLVISKA_TOO_LONG, 0);
+    struct due after_end = refusal(HALLVISKA_TORN, line, 0), too_long = refusal(HALLVISKA_TOO_LONG, 0, 0);
     snprintf(where, sizeof where, "%s lengthened to %d bytes", name, HALLVISKA_SHEET_MOST);
     try_rooms(other, HALLVISKA_SHEET_MOST, &after_end, needed);
     snprintf(where, sizeof where, "%s lengthened to %d bytes", name, HALLVISKA_SHEET_MOST + 1);
@@ -158,8 +179,8 @@ static size_t read_file(const char *name, uint8_t *bytes, size_t most)
 static void try_file(const char *name)
 {
     static uint8_t sheet[HALLVISKA_SHEET_MOST + 1];
-    struct due due = refusal(0, 0);
-    unsigned number, line;
+    struct due due = refusal(0, 0, 0);
+    unsigned number, line, field;
     size_t stem = strlen(name) - (strlen(name) > 6 ? 6 : 0);
     char answer[256], text[ROOM_MOST + 1];
 
@@ -175,8 +196,8 @@ static void try_file(const char *name)
 
     snprintf(text, sizeof text, "%.*s", (int)due.length, (const char *)due.report);
     snprintf(where, sizeof where, "%s", name);
-    if (sscanf(text, "refused=%u,%u", &number, &line) == 2) {
-        due = refusal(number, line);
+    if (sscanf(text, "refused=%u,%u,%u", &number, &line, &field) == 3) {
+        due = refusal(number, line, field);
         try_rooms(sheet, length, &due, ROOM_MOST / 2);
         refused++;
     } else {

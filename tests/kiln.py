@@ -1,4 +1,5 @@
-"""Judges and works the firing sheet of a gas-fired shuttle kiln as document 01 says.
+"""Judges and works the firing sheet of a gas-fired shuttle kiln as document 01 says,
+with what document 02 has changed since (T-01).
 
 It is written to be held against that document, so every figure stands here in
 the document's own units and every value is an exact fraction until the document
@@ -66,13 +67,16 @@ TOTAL_GAS = (100, 200_000)          # 0.1 m3
 # Nine digits at most, so ten digits are a fault of form and never of range.
 NUMBER = re.compile(rb'0|-?[1-9][0-9]{0,8}')
 
+# What a sheet can be refused for.  11 is for the room that a caller lends.
+REFUSALS = [*range(1, 11), 12, 13]
+
 
 # --- What the clerk hears -----------------------------------------------------
 
 def read(data):
-    """('refused', number, line), or ('good', sheet)."""
+    """('refused', number, line, field), or ('good', sheet)."""
     if len(data) > LONGEST:
-        return 'refused', 1, 0
+        return 'refused', 1, 0, 0
     sheet = {key: [] for key in BLOCKS.values()}
     due = list(ORDER)
     line = 0
@@ -83,14 +87,11 @@ def read(data):
         # At the end of the bytes the text is empty and lacks its LF, so a sheet
         # that stops early is refused at the first line that is not there.
         text, lf, rest = rest.partition(b'\n')
-        fields = fields_of(key, text) if lf else None
-        if fields is None:
-            return 'refused', 2, line
-        if not all(within(fields[name], limits) for name, limits in LINES[key].items()):
-            return 'refused', 3, line
-        number = broken_rule(sheet, key, fields)
+        number, field, fields = read_line(key, text) if lf else (13, 0, None)
+        if not number:
+            number, field = broken_rule(sheet, key, fields)
         if number:
-            return 'refused', number, line
+            return 'refused', number, line, field
         if key in BLOCKS.values():
             sheet[key].append(fields)
         else:
@@ -98,26 +99,34 @@ def read(data):
         if key in BLOCKS:
             due[:0] = [BLOCKS[key]] * fields['count']
     if rest:
-        return 'refused', 2, line + 1
+        return 'refused', 13, line + 1, 0
     # Here the document puts 10 before 8.
     if not within(total_gas(sheet), TOTAL_GAS):
-        return 'refused', 10, 0
+        return 'refused', 10, 0, 0
     if not all(reading(sheet, section['number'], stage)
                for section in sheet['section']
                for stage in range(1, len(sheet['stage']) + 1)):
-        return 'refused', 8, 0
+        return 'refused', 8, 0, 0
     return 'good', sheet
 
 
-def fields_of(key, text):
-    """The line's fields by name, or None where refusal 2 is due."""
+def read_line(key, text):
+    """Refusal 2, 12 or 3 with its field, or 0, 0; and the line's fields by name, where they are numbers."""
     found, equals, value = text.partition(b'=')
     values = value.split(b',')
     if found != key.encode() or not equals or len(values) != len(LINES[key]):
-        return None
-    if not all(NUMBER.fullmatch(v) for v in values):
-        return None
-    return dict(zip(LINES[key], map(int, values)))
+        return 2, 0, None
+    field = leftmost(not NUMBER.fullmatch(v) for v in values)
+    if field:
+        return 12, field, None
+    fields = dict(zip(LINES[key], map(int, values)))
+    field = leftmost(not within(fields[name], limits) for name, limits in LINES[key].items())
+    return 3 if field else 0, field, fields
+
+
+def leftmost(faults):
+    """The first of the fields that is at fault, counted from 1, or 0."""
+    return next((place for place, fault in enumerate(faults, 1) if fault), 0)
 
 
 def within(value, limits):
@@ -125,27 +134,27 @@ def within(value, limits):
 
 
 def broken_rule(sheet, key, fields):
-    """The least of refusals 4, 5, 6, 7 and 9 that this line earns, or 0."""
+    """The least of refusals 4, 5, 6, 7 and 9 that this line earns, or 0; and its field, which only 4 has."""
     if key in ('ware', 'setter', 'part'):
         # A material of the table brings its own c, so exactly one is given.
         if (fields['material'] == 0) == (fields['c'] == 0):
-            return 4
+            return 4, leftmost(name == 'material' for name in fields)
     if key == 'gas':
         if sum(fields.values()) != 10_000 or theoretical_air(fields) <= 0:
-            return 5
+            return 5, 0
     if key == 'section':
         if any(s['number'] == fields['number'] for s in sheet['section']):
-            return 6
+            return 6, 0
     if key == 'wall':
         if all(s['number'] != fields['section'] for s in sheet['section']):
-            return 6
+            return 6, 0
         if fields['stage'] > len(sheet['stage']):
-            return 6
+            return 6, 0
         if reading(sheet, fields['section'], fields['stage']):
-            return 7
+            return 7, 0
         if fields['surface'] < fields['air']:
-            return 9
-    return 0
+            return 9, 0
+    return 0, 0
 
 
 def reading(sheet, section, stage):
@@ -370,7 +379,7 @@ def answer(data, text_of):
     """What a program prints for the sheet, where `text_of` words the accepted ones."""
     verdict = read(data)
     if verdict[0] == 'refused':
-        return 'refused=%d,%d\n' % verdict[1:]
+        return 'refused=%d,%d,%d\n' % verdict[1:]
     return text_of(verdict[1])
 
 

@@ -1,5 +1,5 @@
 /* Stands in for the library where a test wants an answer of its own choosing: whatever the sheet, it gives the one in the file that the
- * environment names as ROTE, a report or `refused=NUMBER,LINE`. The screen can so be shown refusals that it never provokes and reports
+ * environment names as ROTE, a report or `refused=NUMBER,LINE,FIELD`. The screen can so be shown refusals that it never provokes and reports
  * that no library writes, on any processor and under its memory checker.
  */
 #include <stdio.h>
@@ -9,8 +9,8 @@
 
 struct hallviska_answer hallviska_balance(const uint8_t *sheet, size_t sheet_length, uint8_t *report, size_t report_length)
 {
-    struct hallviska_answer answer = {0, 0, 0};
-    unsigned number, line;
+    struct hallviska_answer answer = {0, 0, 0, 0};
+    unsigned number, line, field;
     const char *name = getenv("ROTE");
     FILE *file = name ? fopen(name, "rb") : NULL;
     if (!file) {
@@ -19,9 +19,10 @@ struct hallviska_answer hallviska_balance(const uint8_t *sheet, size_t sheet_len
     }
     (void)sheet;
     (void)sheet_length;
-    if (fscanf(file, "refused=%u,%u", &number, &line) == 2) {
+    if (fscanf(file, "refused=%u,%u,%u", &number, &line, &field) == 3) {
         answer.refusal = number;
         answer.line = line;
+        answer.field = field;
     } else {
         rewind(file);
         answer.length = fread(report, 1, report_length, file);
