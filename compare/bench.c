@@ -101,7 +101,7 @@ static struct hallviska_answer agreed(const struct sheet *sheet, const char *pat
     memset(report, 0, sizeof report);
     struct hallviska_answer answer = hallviska_balance(sheet->text, sheet->length, first, sizeof first);
     struct hallviska_answer other = second_balance(sheet->text, sheet->length, report, sizeof report);
-    if (answer.refusal != other.refusal || answer.line != other.line || answer.length != other.length
+    if (answer.refusal != other.refusal || answer.line != other.line || answer.field != other.field || answer.length != other.length
         || memcmp(first, report, sizeof first) != 0) {
         fprintf(stderr, "bench: the two differ on %s\n", path);
         exit(1);
@@ -126,8 +126,8 @@ static void measure(const char *path)
                 best[which] = each;
         }
     const char *name = strrchr(path, '/') ? strrchr(path, '/') + 1 : path;
-    printf("%s %zu %u,%u %.0f %.0f %.2f\n", name, bytes / count, (unsigned)answer.refusal, (unsigned)answer.line, best[0], best[1],
-           best[0] / best[1]);
+    printf("%s %zu %u,%u,%u %.0f %.0f %.2f\n", name, bytes / count, (unsigned)answer.refusal, (unsigned)answer.line, (unsigned)answer.field,
+           best[0], best[1], best[0] / best[1]);
 }
 
 int main(int words, char **word)

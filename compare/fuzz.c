@@ -16,7 +16,7 @@
 
 struct hallviska_answer second_balance(const uint8_t *sheet, size_t sheet_length, uint8_t *report, size_t report_length);
 
-enum { GUARD = 64, LEANING = 16, SHEET_MOST = 1 << 16, LENT = GUARD + LEANING + HALLVISKA_REPORT_MOST + GUARD, REFUSALS = 12 };
+enum { GUARD = 64, LEANING = 16, SHEET_MOST = 1 << 16, LENT = GUARD + LEANING + HALLVISKA_REPORT_MOST + GUARD, REFUSALS = 14 };
 
 /* What lies in a room and around it before a call, from a place that changes from call to call: a byte that was written by chance as it
  * was is written otherwise in another call. */
@@ -98,7 +98,7 @@ static uint64_t digest(const uint8_t *bytes, size_t length)
 
 static void tell(const char *who, struct hallviska_answer answer, const uint8_t *report)
 {
-    fprintf(stderr, "%s: refusal %u, line %u, length %zu\n", who, answer.refusal, answer.line, answer.length);
+    fprintf(stderr, "%s: refusal %u, line %u, field %u, length %zu\n", who, answer.refusal, answer.line, answer.field, answer.length);
     if (answer.length <= HALLVISKA_REPORT_MOST)
         fwrite(report, 1, answer.length, stderr);
 }
@@ -120,7 +120,7 @@ static struct hallviska_answer put(const uint8_t *text, size_t length, uint8_t *
     const char *fault = NULL;
     if (!sheet_kept)
         fault = "the sheet was written to";
-    else if (ours.refusal != theirs.refusal || ours.line != theirs.line || ours.length != theirs.length)
+    else if (ours.refusal != theirs.refusal || ours.line != theirs.line || ours.field != theirs.field || ours.length != theirs.length)
         fault = "the answers differ";
     else if (ours.refusal >= REFUSALS || ours.length > room)
         fault = "no such answer can be";

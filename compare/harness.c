@@ -3,8 +3,9 @@
  *
  * A batch comes on standard input: two numbers of 32 bits, how many bytes and how many requests; then the requests. A request is two
  * numbers, the sheet's length and the report's room, and the sheet. When a batch has come whole it is worked through, and then all its
- * answers are written: refusal, line, length (64 bits), what was touched that should not have been, the room's size, and all bytes of
- * the room; and with BEFORE the other library's answer behind each. Numbers are as this processor has them, the lowest byte first.
+ * answers are written: refusal, line, field, what was touched that should not have been, length and the room's size (64 bits each), and
+ * all bytes of the room; and with BEFORE the other library's answer behind each. Numbers are as this processor has them, the lowest byte
+ * first.
  *
  * DAMAGE is for seeing that the comparison fails when it should: one answer, after the first few hundred, is spoilt in the way it says,
  * or with `crash` the program ends at the first surface that is colder than its air.
@@ -24,9 +25,8 @@ enum { GUARD = 64, ROOM_MOST = 4096, SHEET_MOST = 65536, BATCH_MOST = 1 << 24, F
 enum { UNTOUCHED = 0, TOUCHED_BEFORE = 1, TOUCHED_BEHIND = 2, TOUCHED_SHEET = 4 };
 
 struct head {
-    uint32_t refusal, line;
-    uint64_t length;
-    uint32_t touched, room;
+    uint32_t refusal, line, field, touched;
+    uint64_t length, room;
 };
 
 static uint8_t batch[BATCH_MOST];
@@ -78,15 +78,17 @@ static bool spoil_answer(struct head *head)
     if (asked_for("refusal") && !accepted)
         head->refusal += 1;
     else if (asked_for("accepted") && !accepted)
-        head->refusal = head->line = 0;
+        head->refusal = head->line = head->field = 0;
     else if (asked_for("line") && head->line > 0)
         head->line -= 1;
+    else if (asked_for("field") && head->field > 0)
+        head->field -= 1;
     else if (asked_for("length") && accepted)
         head->length -= 1;
     else if (asked_for("length-of-refused") && !accepted)
         head->length = 1;
     else if (asked_for("stale"))
-        *head = (struct head){last.refusal, last.line, last.length, old.touched, old.room};
+        *head = (struct head){last.refusal, last.line, last.field, old.touched, last.length, old.room};
     last = old;
     return memcmp(head, &old, sizeof old) != 0;
 }
@@ -143,7 +145,7 @@ static struct loan lend(const uint8_t *text, size_t sheet_length, size_t room)
 
 static struct head headed(struct said said, size_t room)
 {
-    return (struct head){said.refusal, said.line, said.length, UNTOUCHED, (uint32_t)room};
+    return (struct head){said.refusal, said.line, said.field, UNTOUCHED, said.length, room};
 }
 
 /* Sends what was said, and all that was done with what was lent. */

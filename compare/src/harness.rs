@@ -51,12 +51,12 @@ pub fn send(requests: &mut ChildStdin, cases: &[Case]) -> io::Result<()> {
 
 /// The next answer.
 pub fn receive(answers: &mut impl Read) -> io::Result<Deed> {
-    let mut head = [0; 24];
+    let mut head = [0; 32];
     answers.read_exact(&mut head)?;
     let word = |at: usize| u32::from_le_bytes([head[at], head[at + 1], head[at + 2], head[at + 3]]);
-    let length = u64::from(word(8)) | u64::from(word(12)) << 32;
-    let mut room = vec![0; word(20) as usize];
+    let double = |at: usize| u64::from(word(at)) | u64::from(word(at + 4)) << 32;
+    let mut room = vec![0; double(24) as usize];
     answers.read_exact(&mut room)?;
-    let answer = Answer { refusal: word(0), line: word(4), length: length as usize };
-    Ok(Deed { answer, touched: word(16), room })
+    let answer = Answer { refusal: word(0), line: word(4), field: word(8), length: double(16) as usize };
+    Ok(Deed { answer, touched: word(12), room })
 }

@@ -10,6 +10,7 @@ pub enum Damage {
     Refusal,
     Accepted,
     Line,
+    Field,
     Length,
     FirstByte,
     LastByte,
@@ -24,6 +25,7 @@ impl Damage {
             ("refusal", Refusal),
             ("accepted", Accepted),
             ("line", Line),
+            ("field", Field),
             ("length", Length),
             ("first-byte", FirstByte),
             ("last-byte", LastByte),
@@ -35,12 +37,13 @@ impl Damage {
 
     /// True where the answer could be spoilt in this way.
     pub fn spoil(self, due: &mut Deed) -> bool {
-        let Answer { refusal, line, length } = due.answer;
+        let Answer { refusal, line, field, length } = due.answer;
         let refused = refusal != 0;
         match self {
             Damage::Refusal if refused => due.answer.refusal -= 1,
-            Damage::Accepted if refused => due.answer = Answer { refusal: 0, line: 0, length: 0 },
+            Damage::Accepted if refused => due.answer = Answer { refusal: 0, line: 0, field: 0, length: 0 },
             Damage::Line if line > 0 => due.answer.line += 1,
+            Damage::Field if field > 0 => due.answer.field += 1,
             Damage::Length if !refused => due.answer.length += 1,
             Damage::FirstByte if !refused => due.room[0] ^= 1,
             Damage::LastByte if !refused => due.room[length - 1] ^= 1,

@@ -10,7 +10,7 @@ pub fn due(sheet: &[u8]) -> Vec<u8> {
     let said = answer(sheet, &mut report);
     match said.refusal {
         0 => report[..said.length].to_vec(),
-        number => format!("refused={number},{}\n", said.line).into_bytes(),
+        number => format!("refused={number},{},{}\n", said.line, said.field).into_bytes(),
     }
 }
 

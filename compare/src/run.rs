@@ -49,10 +49,13 @@ pub struct Plan {
     pub sample: u64,
 }
 
+/// The refusals' numbers are below this.
+const REFUSALS: usize = 14;
+
 /// What came of it.
 pub struct Outcome {
     /// How many sheets met each refusal, and at 0 how many were accepted.
-    met: [u64; 12],
+    met: [u64; REFUSALS],
     kinds: BTreeMap<&'static str, u64>,
     seconds: f64,
     pub difference: Option<String>,
@@ -83,7 +86,7 @@ pub fn library(plan: &Plan, source: &Source, given: Vec<Case>) -> io::Result<Out
     let start = Instant::now();
     let (mut child, requests, mut answers) = harness::start(&plan.harness)?;
     let (sent, batches) = sync_channel(AHEAD);
-    let mut outcome = Outcome { met: [0; 12], kinds: BTreeMap::new(), seconds: 0.0, difference: None };
+    let mut outcome = Outcome { met: [0; REFUSALS], kinds: BTreeMap::new(), seconds: 0.0, difference: None };
     let cases = given.into_iter().chain((0..plan.count).map(|number| source.case(number)));
     thread::scope(|scope| {
         scope.spawn(move || send_all(cases, requests, sent));

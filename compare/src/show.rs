@@ -17,10 +17,9 @@ const TOUCHED: [(u32, &str); 3] =
     [(1, "has written before the room that was lent"), (2, "has written behind the room that was lent"), (4, "has changed the sheet")];
 
 pub fn words(answer: &Answer) -> String {
-    match answer.refusal {
-        0 => format!("accepted, line {}, {} bytes", answer.line, answer.length),
-        number => format!("refusal {number}, line {}, {} bytes", answer.line, answer.length),
-    }
+    let Answer { refusal, line, field, length } = answer;
+    let what = if *refusal == 0 { "accepted".to_string() } else { format!("refusal {refusal}") };
+    format!("{what}, line {line}, field {field}, {length} bytes")
 }
 
 /// Bytes as they can be shown: what is no letter, digit or sign is written as Rust writes it.

@@ -1,8 +1,8 @@
-//! A second opinion on a firing's sheet: document 01 worked out anew, in whole numbers, from the document, the standard and
-//! the readings of doubtful places that docs/DECISIONS.md lists.
+//! A second opinion on a firing's sheet: document 01 worked out anew, with what document 02 has changed since, in whole numbers, from the
+//! documents, the standard and the readings of doubtful places that docs/DECISIONS.md lists.
 //!
 //! The proved library is held to it. So it shares nothing with that library but the documents: whoever corrects one of the two
-//! corrects it from document 01 and not from the other one.
+//! corrects it from the documents and not from the other one.
 #![no_std]
 #![deny(unsafe_code)]
 
@@ -21,11 +21,20 @@ mod export;
 pub use print::KEYS;
 pub use work::{balance, Balance, HEATS};
 
-/// A sheet that breaks a rule: the number of the rule and the sheet's line, or line 0 for the whole sheet.
+/// A sheet that breaks a rule: the number of the rule, the sheet's line, or line 0 for the whole sheet, and the line's field, or field 0
+/// for the whole line.
 #[derive(Clone, Copy, Debug, PartialEq, Eq)]
 pub struct Refused {
     pub number: u32,
     pub line: u32,
+    pub field: u32,
+}
+
+impl Refused {
+    /// The whole sheet is refused.
+    fn whole(number: u32) -> Refused {
+        Refused { number, line: 0, field: 0 }
+    }
 }
 
 /// What comes back for a sheet, with the meaning that `struct hallviska_answer` has in C.
@@ -34,6 +43,7 @@ pub struct Refused {
 pub struct Answer {
     pub refusal: u32,
     pub line: u32,
+    pub field: u32,
     pub length: usize,
 }
 
@@ -41,19 +51,20 @@ pub struct Answer {
 pub fn answer(sheet: &[u8], report: &mut [u8]) -> Answer {
     let balance = match balance(sheet) {
         Ok(balance) => balance,
-        Err(refused) => return refusal(refused.number, refused.line),
+        Err(refused) => return refusal(refused),
     };
     let page = print::Page::of(&balance);
     let text = page.text();
     match report.get_mut(..text.len()) {
-        None => refusal(11, 0),
+        None => refusal(Refused::whole(11)),
         Some(front) => {
             front.copy_from_slice(text);
-            Answer { refusal: 0, line: 0, length: text.len() }
+            Answer { refusal: 0, line: 0, field: 0, length: text.len() }
         }
     }
 }
 
-fn refusal(refusal: u32, line: u32) -> Answer {
-    Answer { refusal, line, length: 0 }
+fn refusal(refused: Refused) -> Answer {
+    let Refused { number, line, field } = refused;
+    Answer { refusal: number, line, field, length: 0 }
 }

@@ -40,6 +40,11 @@ pub const WALLS: [Span; 1] = [(0, 48)];
 pub const WALL: [Span; 4] = [SECTION_NUMBER, (1, MOST_STAGES as i64), (-200, 3_000), ROOM_AIR];
 pub const END: [Span; 1] = [(1, 1)];
 
+/// Which field of its line names the material, counted from 1.
+pub const WARE_MATERIAL: u32 = 4;
+pub const SETTER_MATERIAL: u32 = 3;
+pub const PART_MATERIAL: u32 = 2;
+
 /// Gas of all stages together, in tenths of a cubic metre.
 pub const TOTAL_GAS: Span = (100, 200_000);
 

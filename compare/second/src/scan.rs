@@ -1,4 +1,4 @@
-//! The bytes of a sheet, line by line, from front to back and each byte once.
+//! The bytes of a sheet, line by line, from front to back and each byte once. Only a line that is at fault is looked at again.
 
 use crate::limits::Span;
 use crate::Refused;
@@ -15,32 +15,70 @@ impl<'a> Scan<'a> {
         Scan { sheet, at: 0, line: 0 }
     }
 
-    /// A refusal at the line that was read last.
+    /// A refusal at the line that was read last, of no field of it.
     #[inline(never)]
     #[cold]
     pub fn refuse(&self, number: u32) -> Refused {
-        Refused { number, line: self.line }
+        self.refuse_at(number, 0)
+    }
+
+    /// A refusal at a field of that line, counted from 1.
+    #[inline(never)]
+    #[cold]
+    pub fn refuse_at(&self, number: u32, field: u32) -> Refused {
+        Refused { number, line: self.line, field }
     }
 
     /// The values of the line that is due, whose key is given with its `=`.
     ///
-    /// All of the line's form is seen to before any of its values, for refusal 2 comes before refusal 3.
+    /// All of the line's form is seen to before any of its values, for refusals 13, 2 and 12 come before refusal 3.
     #[inline]
     pub fn line<const K: usize, const N: usize>(&mut self, key: &[u8; K], spans: &[Span; N]) -> Result<[i64; N], Refused> {
         self.line += 1;
+        let start = self.at;
         let values = match self.values(key) {
             Some(values) => values,
-            None => return Err(self.refuse(2)),
+            None => return Err(self.misread(start, key, N)),
         };
         let mut inside = true;
         for (value, span) in values.iter().zip(spans) {
-            inside &= span.0 <= *value && *value <= span.1;
+            inside &= within(value, span);
         }
         if inside {
             Ok(values)
         } else {
-            Err(self.refuse(3))
+            Err(self.beyond(&values, spans))
         }
+    }
+
+    /// What is wrong with the line that begins at `start`, which could not be read: 13 before 2, and 2 before 12.
+    #[inline(never)]
+    #[cold]
+    fn misread(&self, start: usize, key: &[u8], fields: usize) -> Refused {
+        let rest = &self.sheet[start..];
+        let line = match rest.iter().position(|&byte| byte == b'\n') {
+            Some(lf) => &rest[..=lf],
+            None => return self.refuse(13),
+        };
+        let commas = line.iter().filter(|&&byte| byte == b',').count();
+        if !line.starts_with(key) || commas + 1 != fields {
+            return self.refuse(2);
+        }
+        let mut again = Scan { sheet: line, at: key.len(), line: self.line };
+        let mut field = 1;
+        while again.number().is_some() && line.get(again.at) == Some(&b',') {
+            again.at += 1;
+            field += 1;
+        }
+        self.refuse_at(12, field)
+    }
+
+    /// Refusal 3 at the leftmost field that is outside its range.
+    #[inline(never)]
+    #[cold]
+    fn beyond(&self, values: &[i64], spans: &[Span]) -> Refused {
+        let before = values.iter().zip(spans).take_while(|(value, span)| within(value, span)).count();
+        self.refuse_at(3, before as u32 + 1)
     }
 
     #[inline]
@@ -92,8 +130,13 @@ impl<'a> Scan<'a> {
             return Ok(());
         }
         self.line += 1;
-        Err(self.refuse(2))
+        Err(self.refuse(13))
     }
+}
+
+#[inline(always)]
+fn within(value: &i64, span: &Span) -> bool {
+    span.0 <= *value && *value <= span.1
 }
 
 #[inline(always)]

@@ -66,7 +66,7 @@ struct Stages {
 /// The heats of the sheet, or the first rule that it breaks, except for the rule about the report's room.
 pub fn balance(sheet: &[u8]) -> Result<Balance, Refused> {
     if sheet.len() > LONGEST {
-        return Err(Refused { number: 1, line: 0 });
+        return Err(Refused::whole(1));
     }
     let mut scan = Scan::new(sheet);
     let mut sums = Sums::default();
@@ -80,10 +80,10 @@ pub fn balance(sheet: &[u8]) -> Result<Balance, Refused> {
     scan.line(b"end=", &END)?;
     scan.finish()?;
     if stages.gas < TOTAL_GAS.0 || stages.gas > TOTAL_GAS.1 {
-        return Err(Refused { number: 10, line: 0 });
+        return Err(Refused::whole(10));
     }
     if !all_read {
-        return Err(Refused { number: 8, line: 0 });
+        return Err(Refused::whole(8));
     }
     Ok(Balance { firing, product: load.product, heats: heats(&sums, &load, stages.gas) })
 }
@@ -97,7 +97,7 @@ fn load(scan: &mut Scan, sums: &mut Sums) -> Result<Load, Refused> {
     let burning = Burning::of(&shares).ok_or_else(|| scan.refuse(5))?;
     let [moisture] = scan.line(b"air=", &AIR)?;
     let [green, entry, highest, material, capacity] = scan.line(b"ware=", &WARE)?;
-    let ware = Stuff::new(material, capacity).ok_or_else(|| scan.refuse(4))?;
+    let ware = Stuff::new(material, capacity).ok_or_else(|| scan.refuse_at(4, WARE_MATERIAL))?;
     sums.q5 = ware.heat(green, entry, base);
     sums.x1 = ware.heat(product, highest, entry);
     let [adsorbed, crystal, flue] = scan.line(b"water=", &WATER)?;
@@ -129,7 +129,7 @@ fn setters(scan: &mut Scan, sums: &mut Sums, load: &Load) -> Result<(), Refused>
     let [count] = scan.line(b"setters=", &SETTERS)?;
     for _ in 0..count {
         let [mass, entry, material, capacity] = scan.line(b"setter=", &SETTER)?;
-        let setter = Stuff::new(material, capacity).ok_or_else(|| scan.refuse(4))?;
+        let setter = Stuff::new(material, capacity).ok_or_else(|| scan.refuse_at(4, SETTER_MATERIAL))?;
         sums.q3 += setter.heat(mass, entry, load.base);
         sums.x5 += setter.heat(mass, load.highest, entry);
     }
@@ -141,7 +141,7 @@ fn parts(scan: &mut Scan, sums: &mut Sums, load: &Load) -> Result<(), Refused> {
     let [count] = scan.line(b"parts=", &PARTS)?;
     for _ in 0..count {
         let [mass, material, capacity, before, firing] = scan.line(b"part=", &PART)?;
-        let part = Stuff::new(material, capacity).ok_or_else(|| scan.refuse(4))?;
+        let part = Stuff::new(material, capacity).ok_or_else(|| scan.refuse_at(4, PART_MATERIAL))?;
         sums.q8 += part.heat(mass, before, load.base);
         sums.x10 += part.heat(mass, firing, load.base);
     }
