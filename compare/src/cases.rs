@@ -30,8 +30,8 @@ struct Kind {
     make: Make,
 }
 
-const KINDS: [Kind; 26] = [
-    Kind { name: "usual", often: 16, make: |_, _, dice| usual(dice).bytes() },
+const KINDS: [Kind; 27] = [
+    Kind { name: "usual", often: 14, make: |_, _, dice| usual(dice).bytes() },
     Kind { name: "wild", often: 7, make: |_, _, dice| wild(dice).bytes() },
     Kind { name: "corner", often: 2, make: |_, _, dice| corner(dice).bytes() },
     Kind { name: "of any size", often: 1, make: |_, _, dice| of_any_size(dice).bytes() },
@@ -40,6 +40,7 @@ const KINDS: [Kind; 26] = [
     Kind { name: "beyond a limit", often: 3, make: beyond_limit },
     Kind { name: "one rule broken", often: 5, make: one_fault },
     Kind { name: "two rules broken", often: 5, make: two_faults },
+    Kind { name: "faults in a line", often: 2, make: |_, step, dice| faults::in_a_line(small(dice), step, dice) },
     Kind { name: "number form", often: 4, make: number_form },
     Kind { name: "torn", often: 2, make: torn },
     Kind { name: "lines", often: 2, make: lines },

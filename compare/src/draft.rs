@@ -1,6 +1,6 @@
 //! A sheet as rows of numbers, before it becomes bytes.
 
-use second::limits::{Span, LINES};
+use second::limits::{Span, LINES, PART_MATERIAL, SETTER_MATERIAL, WARE_MATERIAL};
 use std::io::Write;
 
 /// A kind of line: its place in document 01's table.
@@ -52,17 +52,23 @@ pub fn counts(key: Key) -> bool {
 
 /// Where a line names a material; the specific heat of its own stands behind that.
 pub fn material(key: Key) -> Option<usize> {
-    match key {
-        WARE => Some(3),
-        SETTER => Some(2),
-        PART => Some(1),
-        _ => None,
-    }
+    let place = match key {
+        WARE => WARE_MATERIAL,
+        SETTER => SETTER_MATERIAL,
+        PART => PART_MATERIAL,
+        _ => return None,
+    };
+    Some(place as usize - 1)
 }
 
 /// Every field of every kind of line, in the sheet's order.
 pub fn fields() -> impl Iterator<Item = (Key, usize)> {
     (0..LINES.len()).flat_map(|key| (0..LINES[key].1.len()).map(move |field| (key, field)))
+}
+
+/// Every field of every kind of line beside every field of the same line.
+pub fn pairs() -> impl Iterator<Item = (Key, usize, usize)> {
+    fields().flat_map(|(key, one)| (0..LINES[key].1.len()).map(move |other| (key, one, other)))
 }
 
 impl Draft {

@@ -1,7 +1,8 @@
-//! Sheets in which one number or row breaks a rule of document 01, refusals 3 to 10.
+//! Sheets in which one number or row breaks a rule of document 01, refusals 3 to 10, or one line several.
 
 use crate::dice::Dice;
 use crate::draft::*;
+use crate::forms;
 
 /// Makes a sheet break a rule. What the sheet breaks besides is not looked at: the comparison does that.
 pub type Fault = fn(&mut Draft, &mut Dice);
@@ -48,8 +49,12 @@ fn range_of_wall(draft: &mut Draft, dice: &mut Dice) {
 }
 
 pub fn beyond(draft: &mut Draft, dice: &mut Dice, place: usize) {
+    let field = dice.below(draft.rows[place].values.len());
+    beyond_in(draft, dice, place, field);
+}
+
+fn beyond_in(draft: &mut Draft, dice: &mut Dice, place: usize, field: usize) {
     let row = &mut draft.rows[place];
-    let field = dice.below(row.values.len());
     let (least, greatest) = span(row.key, field);
     row.values[field] = if dice.once_in(2) { least - 1 } else { greatest + 1 };
 }
@@ -209,4 +214,56 @@ fn little_gas(draft: &mut Draft, dice: &mut Dice) {
 fn much_gas(draft: &mut Draft, dice: &mut Dice) {
     let total = dice.pick(&[200_001, 200_001, 200_000, 2_400_000, 300_000]);
     set_gas(draft, total, dice);
+}
+
+/// Two or three faults in one line: a range and a form in every pair of a line's fields in turn, and every other time a form, a range or a
+/// fault of the whole line besides.
+pub fn in_a_line(mut draft: Draft, step: u64, dice: &mut Dice) -> Vec<u8> {
+    let pairs: Vec<_> = pairs().collect();
+    let (key, ranged, formed) = pairs[step as usize % pairs.len()];
+    let place = dice.pick(&draft.places(key));
+    beyond_in(&mut draft, dice, place, ranged);
+    let third = dice.below(6);
+    if third == 0 {
+        beyond(&mut draft, dice, place);
+    }
+    let first: usize = draft.rows[..place].iter().map(|row| row.values.len()).sum();
+    let mut sheet = draft.bytes();
+    // The form of a later field first: one that brings a comma moves all fields behind it.
+    let mut places = vec![formed];
+    if third == 1 {
+        places.push(dice.below(draft.rows[place].values.len()));
+    }
+    places.sort_unstable();
+    places.iter().rev().for_each(|field| forms::number(&mut sheet, first + field, dice.below(forms::NUMBER_FORMS)));
+    if third == 2 {
+        forms::whole_line(&mut sheet, place, dice);
+    }
+    sheet
+}
+
+#[cfg(test)]
+mod tests {
+    use super::*;
+    use crate::valid::{self, Size, Style};
+
+    /// Each of 13, 2, 12 and 3 is met, 12 in every field of every line.
+    #[test]
+    fn faults_in_a_line_meet_every_field() {
+        let mut met = [0; 14];
+        let mut boxes = std::collections::BTreeSet::new();
+        for step in 0..20 * pairs().count() as u64 {
+            let mut dice = Dice::new(1, 5, step);
+            let draft = valid::draft(&mut dice, Style::Plain, Size { stages: 1, setters: 1, parts: 1, sections: 1 }, None);
+            let kinds: Vec<Key> = draft.rows.iter().map(|row| row.key).collect();
+            if let Err(refused) = second::balance(&in_a_line(draft, step, &mut dice)) {
+                met[refused.number as usize] += 1;
+                if refused.number == 12 {
+                    boxes.insert((kinds[refused.line as usize - 1], refused.field as usize - 1));
+                }
+            }
+        }
+        assert!(fields().all(|place| boxes.contains(&place)), "{boxes:?}");
+        assert!([13, 2, 12, 3].iter().all(|&number| met[number] > 50), "{met:?}");
+    }
 }

@@ -131,6 +131,19 @@ pub fn line(sheet: &mut Vec<u8>, dice: &mut Dice) {
     }
 }
 
+/// A fault of the whole line of this number, counted from 0: another key, no LF, nothing behind it, a comma more or less.
+pub fn whole_line(sheet: &mut Vec<u8>, number: usize, dice: &mut Dice) {
+    let line = lines(sheet)[number].clone();
+    let comma = sheet[line.clone()].iter().position(|&byte| byte == b',');
+    match dice.below(5) {
+        0 => key(sheet, &line, dice),
+        1 => drop(sheet.remove(line.end - 1)),
+        2 => sheet.truncate(line.end - 1),
+        3 => sheet.insert(line.end - 1, b','),
+        _ => drop(comma.map(|at| sheet.remove(line.start + at))),
+    }
+}
+
 /// A key in capitals, in the singular or plural, with a blank, or another line's.
 fn key(sheet: &mut Vec<u8>, line: &Range<usize>, dice: &mut Dice) {
     let text = &sheet[line.clone()];
