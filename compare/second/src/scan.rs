@@ -35,11 +35,13 @@ impl<'a> Scan<'a> {
     #[inline]
     pub fn line<const K: usize, const N: usize>(&mut self, key: &[u8; K], spans: &[Span; N]) -> Result<[i64; N], Refused> {
         self.line += 1;
-        let start = self.at;
-        let values = match self.values(key) {
+        // A line that cannot be read is looked at from its beginning, so the place moves only when it has been.
+        let mut ahead = Scan { ..*self };
+        let values = match ahead.values(key) {
             Some(values) => values,
-            None => return Err(self.misread(start, key, N)),
+            None => return Err(self.misread(key, N)),
         };
+        self.at = ahead.at;
         let mut inside = true;
         for (value, span) in values.iter().zip(spans) {
             inside &= within(value, span);
@@ -51,11 +53,11 @@ impl<'a> Scan<'a> {
         }
     }
 
-    /// What is wrong with the line that begins at `start`, which could not be read: 13 before 2, and 2 before 12.
+    /// What is wrong with the next line, which could not be read: 13 before 2, and 2 before 12.
     #[inline(never)]
     #[cold]
-    fn misread(&self, start: usize, key: &[u8], fields: usize) -> Refused {
-        let rest = &self.sheet[start..];
+    fn misread(&self, key: &[u8], fields: usize) -> Refused {
+        let rest = &self.sheet[self.at..];
         let line = match rest.iter().position(|&byte| byte == b'\n') {
             Some(lf) => &rest[..=lf],
             None => return self.refuse(13),
