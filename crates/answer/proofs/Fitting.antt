@@ -11,10 +11,10 @@ use Rattle.answer.specs.declared.Answer.{Answer}
 use Rattle.answer.specs.Answer.{refusedAs, fitted, placed}
 
 module _ (text : List ℕ) (room : ℕ) where
-  pub too-little : room < length text → refusedAs (number NoRoom) 0 ≡ fitted text room
+  pub too-little : room < length text → refusedAs (number NoRoom) 0 0 ≡ fitted text room
   too-little h = rw (lt-ltb room (length text) h) refl
 
-  pub enough : {n : ℕ} → length text ≤ room → n ≡ length text → _≡_ {A = Answer} (record { refusal = 0; line = 0; length = n }) (fitted text room)
+  pub enough : {n : ℕ} → length text ≤ room → n ≡ length text → _≡_ {A = Answer} (record { refusal = 0; line = 0; field = 0; length = n }) (fitted text room)
   enough h e = rw (le-ltb room (length text) h, e) refl
 
 module _ (text old : List ℕ) where

@@ -9,7 +9,7 @@ use Rattle.text.specs.Bytes.{bytes}
 use Rattle.text.specs.Decimal.{decimal}
 use Rattle.pen.specs.Writing.{over}
 use Rattle.sheet.specs.declared.Refusal.the-variants.{NoRoom}
-use Rattle.sheet.specs.Refusals.{number}
+use Rattle.sheet.specs.Refusals.{number, field}
 use Rattle.sheet.specs.Firing.{Firing}
 use Rattle.document.specs.Reader as lines
 use Rattle.document.specs.Reader.{Refused, Good, readOf}
@@ -18,20 +18,20 @@ use Rattle.document.specs.Rows.{firingOf}
 use Rattle.formulas.specs.Report.{report, joulesText}
 use Rattle.answer.specs.declared.Answer.{Answer}
 
--- a refusal by its number, with its line
-abbrev pub refusedAs : ℕ → ℕ → Answer
-refusedAs refusal line = record { refusal = refusal; line = line; length = 0 }
+-- a refusal by its number, with its line and its field
+abbrev pub refusedAs : ℕ → ℕ → ℕ → Answer
+refusedAs refusal line field = record { refusal = refusal; line = line; field = field; length = 0 }
 
 -- a text for which so much room is lent: its length, or refusal 11
 abbrev pub fitted : List ℕ → ℕ → Answer
-fitted text room = cond (ltb room (length text)) (refusedAs (number NoRoom) 0) (record { refusal = 0; line = 0; length = length text })
+fitted text room = cond (ltb room (length text)) (refusedAs (number NoRoom) 0 0) (record { refusal = 0; line = 0; field = 0; length = length text })
 
 -- and the room: as it was, or with the text at its front
 abbrev pub placed : List ℕ → List ℕ → List ℕ
 placed text old = cond (ltb (length old) (length text)) old (over 0 text old)
 
 abbrev pub answered : lines.Answer → ℕ → Answer
-answered (Refused x n) room = refusedAs (number x) n
+answered (Refused x n) room = refusedAs (number x) n (field x)
 answered (Good sheet) room = fitted (report (firingOf sheet)) room
 
 abbrev pub left : lines.Answer → List ℕ → List ℕ
@@ -46,16 +46,20 @@ answerOf s room = answered (readOf document s) room
 unfoldable pub bufferOf : List ℕ → List ℕ → List ℕ
 bufferOf s old = left (readOf document s) old
 
--- WHAT A PROGRAM PRINTS: `refused=NUMBER,LINE` and LF, or a text of the firing
-abbrev pub refusedText : ℕ → ℕ → List ℕ
-refusedText refusal line = bytes "refused=" ++ (decimal (pos refusal) ++ (bytes "," ++ (decimal (pos line) ++ bytes "\n")))
+-- a comma and a number
+abbrev pub behindComma : ℕ → List ℕ
+behindComma n = bytes "," ++ decimal (pos n)
+
+-- WHAT A PROGRAM PRINTS: `refused=NUMBER,LINE,FIELD` and LF, or a text of the firing
+abbrev pub refusedText : ℕ → ℕ → ℕ → List ℕ
+refusedText refusal line field = bytes "refused=" ++ (decimal (pos refusal) ++ (behindComma line ++ (behindComma field ++ bytes "\n")))
 
 -- no refusal's is longer
 abbrev pub refusedMost : ℕ
-refusedMost = 40
+refusedMost = 44
 
 abbrev pub told : (Firing → List ℕ) → lines.Answer → List ℕ
-told text (Refused x n) = refusedText (number x) n
+told text (Refused x n) = refusedText (number x) n (field x)
 told text (Good sheet) = text (firingOf sheet)
 
 -- `balance` prints the report

@@ -1,6 +1,6 @@
-// The answer by its three numbers: a refusal, or a report that is put into a lent slice if it fits; and a refusal as a program prints it.
+// The answer by its four numbers: a refusal, or a report that is put into a lent slice if it fits; and a refusal as a program prints it.
 ghost use mathlib.Core.Path.{_≡_};
-ghost use Prim.Native.Nat.{_<_, _≤_, _^_};
+ghost use Prim.Native.Nat.{_+_, _<_, _≤_, _^_};
 ghost use lib.ListN.{length};
 ghost use mir.Syntax.{w64};
 ghost use mir.Val.{SFits};
@@ -9,27 +9,28 @@ ghost use Rattle.document.specs.Rules.{Every};
 ghost use Rattle.formulas.specs.Items.{shuttle};
 ghost use Rattle.formulas.specs.Report.{keys, linesText};
 ghost use Rattle.report.specs.Lengths.{reportMost};
-ghost use Rattle.answer.specs.Answer.{refusedAs, fitted, placed, refusedText, refusedMost};
+ghost use Rattle.answer.specs.Answer.{refusedAs, fitted, placed, behindComma, refusedText, refusedMost};
 use report::LINES;
 use sheet::Refusal;
 
-// A refusal's number and line, 0 and 0 where there is none, and the length of the report.
+// A refusal's number, line and field, 0 for all three where there is none, and the length of the report.
 #[repr(C)]
 pub struct Answer {
     pub refusal: u32,
     pub line: u32,
+    pub field: u32,
     pub length: usize,
 }
 
-// A refusal, by its number and with its line.
-pub fn refused(number: usize, line: usize) -> Answer
-    requires { ⌜ number < 2 ^ 32 ⌝ }
-    requires { ⌜ line < 2 ^ 32 ⌝ }
-    ensures { λ r. ⌜ r ≡ refusedAs number line ⌝ }
+// A refusal, by its number and with its line and its field.
+pub fn refused(number: usize, line: usize, field: usize) -> Answer
+    requires { ⌜ (number < 2 ^ 32) × (line < 2 ^ 32) × (field < 2 ^ 32) ⌝ }
+    ensures { λ r. ⌜ r ≡ refusedAs number line field ⌝ }
 {
     Answer {
         refusal: number as u32,
         line: line as u32,
+        field: field as u32,
         length: 0,
     }
 }
@@ -46,22 +47,32 @@ pub fn reported(figures: &[i64; LINES], room: &mut [u8]) -> Answer
         return Answer {
             refusal: 0,
             line: 0,
+            field: 0,
             length,
         };
     }
     let number = sheet::refusal_number(Refusal::NoRoom);
-    refused(number, 0)
+    refused(number, 0, 0)
 }
 
-// Puts `refused=NUMBER,LINE` and LF at the front, and answers how long it is.
-pub fn refusal_text(out: &mut [u8], refusal: u32, line: u32) -> usize
+// Puts a comma and a number, and answers where they end.
+fn behind_comma(out: &mut [u8], at: usize, number: u32) -> usize
+    requires { ⌜ at + length (behindComma number) ≤ length (now out) ⌝ }
+    ensures { λ r. ⌜ Written at (behindComma number) (now (out .entry)) (now (out .exit)) r ⌝ }
+{
+    let behind = pen::bytes_at(out, at, b",");
+    pen::number_at(out, behind, number as i64)
+}
+
+// Puts `refused=NUMBER,LINE,FIELD` and LF at the front, and answers how long it is.
+pub fn refusal_text(out: &mut [u8], answer: Answer) -> usize
     requires { ⌜ refusedMost ≤ length (now out) ⌝ }
-    ensures { λ r. ⌜ Written 0 (refusedText refusal line) (now (out .entry)) (now (out .exit)) r ⌝ }
+    ensures { λ r. ⌜ Written 0 (refusedText (answer .refusal) (answer .line) (answer .field)) (now (out .entry)) (now (out .exit)) r ⌝ }
     ensures { λ r. ⌜ r ≤ refusedMost ⌝ }
 {
-    let a = pen::bytes_at(out, 0, b"refused=");
-    let b = pen::number_at(out, a, refusal as i64);
-    let c = pen::bytes_at(out, b, b",");
-    let d = pen::number_at(out, c, line as i64);
-    pen::bytes_at(out, d, b"\n")
+    let word = pen::bytes_at(out, 0, b"refused=");
+    let number = pen::number_at(out, word, answer.refusal as i64);
+    let line = behind_comma(out, number, answer.line);
+    let field = behind_comma(out, line, answer.field);
+    pen::bytes_at(out, field, b"\n")
 }

@@ -1,4 +1,4 @@
-// Reads a sheet on standard input and prints its report, or `refused=NUMBER,LINE`. Where standard input cannot be read to its end there is no
+// Reads a sheet on standard input and prints its report, or `refused=NUMBER,LINE,FIELD`. Where standard input cannot be read to its end there is no
 // sheet to answer: nothing is printed, and standard error says so. It also says where what was printed could not be written. The exit status
 // says neither, for a program of this language has none but 0.
 use libc::STDERR_FILENO;

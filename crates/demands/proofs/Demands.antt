@@ -1,6 +1,6 @@
 -- Demands 1 and 2, from the laws of the reader and of the answer. Assumes nothing.
 use Prim.Native.Nat.{ℕ, _+_, _≤_, _<_}
-use mathlib.Core.Path.{_≡_, refl, sym, ap, _∙_}
+use mathlib.Core.Path.{_≡_, refl, sym, ap, ap₂, _∙_}
 use mathlib.Core.Bool.{Bool, true, false, cond}
 use mathlib.Core.List.{List}
 use mathlib.Core.Logic.{_⊎_, inl, inr}
@@ -9,9 +9,10 @@ use lib.Dec.{ltb}
 use lib.ListN.{length}
 use borrow.Author.Tests.{ltb-false}
 use Rattle.pen.specs.Writing.{over}
-use Rattle.sheet.specs.Refusals.{number}
+use Rattle.sheet.specs.Refusals.{number, field}
+use Rattle.sheet.proofs.Refusals.{numbered}
 use Rattle.sheet.specs.Firing.{Firing}
-use Rattle.sheet.specs.Quantities.{sheetMost}
+use Rattle.sheet.specs.Quantities.{sheetMost, fieldsMost}
 use Rattle.document.specs.Reader as reader
 use Rattle.document.specs.Reader.{Sheet, Good, readOf}
 use Rattle.document.specs.Editions.{document, sheetOf}
@@ -21,8 +22,8 @@ use Rattle.document.specs.Order.{Hears}
 use Rattle.document.proofs.Rows.{firing-back}
 use Rattle.document.proofs.Editions.{firing-accepted, firing-kept, firing-lawful}
 use Rattle.document.proofs.Plain.{lawful-keeps}
-use Rattle.document.proofs.Numbering.{refuses}
-use Rattle.document.proofs.First.{heard-first, exactly, first-number}
+use Rattle.document.proofs.Numbering.{refuses, first-number}
+use Rattle.document.proofs.First.{heard-first, exactly}
 use Rattle.formulas.specs.Report.{report}
 use Rattle.answer.specs.declared.Answer.{Answer}
 use Rattle.answer.specs.Answer.{refusedAs, fitted, placed, answered, left, answerOf, bufferOf}
@@ -55,7 +56,7 @@ module _ (s room : List ℕ) (f : Firing) {sheet : Sheet} (good : readOf documen
     lent = its-room ∙ sym (at-front (report f) room h refl);
   }
 
-  no-room : length room < length (report f) → Declined s room 11 0
+  no-room : length room < length (report f) → Declined s room 11 0 0
   no-room h = record { answer = its-answer ∙ sym (too-little (report f) (length room) h); lent = its-room ∙ sym (untouched (report f) room h) }
 
 -- the text of a firing that keeps the rules is read as itself, and an accepted text is that of such a firing
@@ -73,9 +74,12 @@ either s (reader.Refused x n) said =
     inr (record {
       number = number x;
       line = n;
+      field = field x;
       least = r .named;
-      most = first-number (heard-first s x n said);
+      most = numbered x .most;
+      ofSheet = first-number (heard-first s x n said);
       within = r .within;
+      fields = r .fields;
       first = heard-first s x n said;
       told = λ room. record { answer = answer-is s room said; lent = room-is s room said };
     })
@@ -88,27 +92,37 @@ apart s k r =
     let e : 0 ≡ r .number = ap (λ (y : Answer). y .refusal) (sym a ∙ r .told (report f) .answer) in
     absurd (let z : ⊥ = omega (arith, r .least) in z)
 
-fitted-numbers : (t : List ℕ) (room : ℕ) → (fitted t room .refusal ≤ 11) × (fitted t room .line ≤ sheetMost + 1)
-fitted-numbers t room = here (ltb room (length t))
+-- the numbers of an answer are small
+record Small (a : Answer) : Type 0 where
+  refusal : a .refusal ≤ 13
+  line : a .line ≤ sheetMost + 1
+  field : a .field ≤ fieldsMost
+
+fitted-small : (t : List ℕ) (room : ℕ) → Small (fitted t room)
+fitted-small t room = here (ltb room (length t))
   where
-    here : (b : Bool) → (cond b (refusedAs 11 0) (accepted (length t)) .refusal ≤ 11) × (cond b (refusedAs 11 0) (accepted (length t)) .line ≤ sheetMost + 1)
-    here true = (omega arith, omega arith)
-    here false = (omega arith, omega arith)
+    here : (b : Bool) → Small (cond b (refusedAs 11 0 0) (accepted (length t)))
+    here true = record { refusal = omega arith; line = omega arith; field = omega arith }
+    here false = record { refusal = omega arith; line = omega arith; field = omega arith }
 
-numbers : (s : List ℕ) (room : ℕ) (a : reader.Answer) → readOf document s ≡ a → (answered a room .refusal ≤ 11) × (answered a room .line ≤ sheetMost + 1)
-numbers s room (reader.Refused x n) said = (omega (arith, first-number (heard-first s x n said)), refuses s x n said .within)
-numbers s room (Good sheet) said = fitted-numbers (report (firingOf sheet)) room
+small : (s : List ℕ) (room : ℕ) (a : reader.Answer) → readOf document s ≡ a → Small (answered a room)
+small s room (reader.Refused x n) said = let r = refuses s x n said in record { refusal = numbered x .most; line = r .within; field = r .fields }
+small s room (Good sheet) said = fitted-small (report (firingOf sheet)) room
 
-heard : (s room : List ℕ) (k n : ℕ) → Hears s k n → Declined s room k n
-heard s room k n h = record { answer = answer-is s room (h .is) ∙ ap (λ (i : ℕ). refusedAs i n) (h .numbered); lent = room-is s room (h .is) }
+heard : (s room : List ℕ) (k n i : ℕ) → Hears s k n i → Declined s room k n i
+heard s room k n i h = record {
+  answer = answer-is s room (h .is) ∙ ap₂ (λ (a b : ℕ). refusedAs a n b) (h .numbered) (h .fielded);
+  lent = room-is s room (h .is);
+}
 
 pub demand1 : Demand1
 unfolding answerOf
 demand1 = record {
   either = λ s. either s (readOf document s) refl;
   apart = apart;
-  numbers = λ s room. numbers s room (readOf document s) refl .0;
-  lines = λ s room. numbers s room (readOf document s) refl .1;
+  numbers = λ s room. small s room (readOf document s) refl .refusal;
+  lines = λ s room. small s room (readOf document s) refl .line;
+  fields = λ s room. small s room (readOf document s) refl .field;
   heard = heard;
   exactly = exactly;
 }

@@ -6,7 +6,7 @@ use mathlib.Core.List.{List, _++_}
 use mathlib.Core.Logic.{_⊎_}
 use lib.ListN.{length, drop}
 use Rattle.sheet.specs.Firing.{Firing}
-use Rattle.sheet.specs.Quantities.{sheetMost}
+use Rattle.sheet.specs.Quantities.{sheetMost, fieldsMost}
 use Rattle.document.specs.Reader.{textOf}
 use Rattle.document.specs.Editions.{document, sheetOf}
 use Rattle.document.specs.Lawful.{Lawful}
@@ -27,7 +27,7 @@ pub record Kept (s : List ℕ) : Type 0 where
 
 -- accepted, with a report of so many bytes
 abbrev pub accepted : ℕ → Answer
-accepted n = record { refusal = 0; line = 0; length = n }
+accepted n = record { refusal = 0; line = 0; field = 0; length = n }
 
 -- THE REPORT IS WRITTEN: at the front of the room, and behind it the room is as it was
 pub record Reported (s room : List ℕ) (f : Firing) : Type 0 where
@@ -35,37 +35,41 @@ pub record Reported (s room : List ℕ) (f : Firing) : Type 0 where
   pub answer : answerOf s (length room) ≡ accepted (length (report f))
   pub lent : bufferOf s room ≡ report f ++ drop (length (report f)) room
 
--- NOTHING IS WRITTEN: refusal k at line n, and the room is as it came
-pub record Declined (s room : List ℕ) (k n : ℕ) : Type 0 where
-  pub answer : answerOf s (length room) ≡ refusedAs k n
+-- NOTHING IS WRITTEN: refusal k at line n and field i, and the room is as it came
+pub record Declined (s room : List ℕ) (k n i : ℕ) : Type 0 where
+  pub answer : answerOf s (length room) ≡ refusedAs k n i
   pub lent : bufferOf s room ≡ room
 
--- A TEXT IS REFUSED: with the first of document 01's refusals that applies and its line, whatever the room is
+-- A TEXT IS REFUSED: with the first refusal that applies, its line and its field, whatever the room is; 11 is not among these
 pub record Refused (s : List ℕ) : Type 0 where
   pub number : ℕ
   pub line : ℕ
+  pub field : ℕ
   pub least : 1 ≤ number
-  pub most : number ≤ 10
+  pub most : number ≤ 13
+  pub ofSheet : ¬ (number ≡ 11)
   pub within : line ≤ sheetMost + 1
-  pub first : First s number line
-  pub told : (room : List ℕ) → Declined s room number line
+  pub fields : field ≤ fieldsMost
+  pub first : First s number line field
+  pub told : (room : List ℕ) → Declined s room number line field
 
 -- DEMAND 1: every text is that of a firing that keeps the rules, or refused; never both
 pub record Demand1 : Type 0 where
   pub either : (s : List ℕ) → Kept s ⊎ Refused s
   pub apart : (s : List ℕ) → Kept s → ¬ Refused s
-  -- every number and every line that is ever answered
-  pub numbers : (s : List ℕ) (room : ℕ) → answerOf s room .refusal ≤ 11
+  -- every number, every line and every field that is ever answered
+  pub numbers : (s : List ℕ) (room : ℕ) → answerOf s room .refusal ≤ 13
   pub lines : (s : List ℕ) (room : ℕ) → answerOf s room .line ≤ sheetMost + 1
+  pub fields : (s : List ℕ) (room : ℕ) → answerOf s room .field ≤ fieldsMost
   -- what the reader says is answered in every room
-  pub heard : (s room : List ℕ) (k n : ℕ) → Hears s k n → Declined s room k n
-  -- and it says the first that applies, in document 01's order, and no other
-  pub exactly : (s : List ℕ) (k n : ℕ) → Exactly s k n
+  pub heard : (s room : List ℕ) (k n i : ℕ) → Hears s k n i → Declined s room k n i
+  -- and it says the first that applies, in document 01's order as T-01 amends it, and no other
+  pub exactly : (s : List ℕ) (k n i : ℕ) → Exactly s k n i
 
 -- DEMAND 2: the text of every firing that keeps the rules is answered with its report in every room that is large enough, and 11 in every
 -- other one; whatever is answered 0 is such a text, and no two such firings have one text
 pub record Demand2 : Type 0 where
   pub reported : (f : Firing) → Lawful f → (room : List ℕ) → length (report f) ≤ length room → Reported (text f) room f
-  pub noRoom : (f : Firing) → Lawful f → (room : List ℕ) → length room < length (report f) → Declined (text f) room 11 0
+  pub noRoom : (f : Firing) → Lawful f → (room : List ℕ) → length room < length (report f) → Declined (text f) room 11 0 0
   pub only : (s room : List ℕ) → answerOf s (length room) .refusal ≡ 0 → (k : Kept s) × Reported s room (k .firing)
   pub one : (f g : Firing) → Lawful f → Lawful g → text f ≡ text g → f ≡ g

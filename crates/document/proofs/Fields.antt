@@ -24,10 +24,13 @@ FieldIn i [] z = Unit {0}
 FieldIn zero (f ∷ fs) z = In f z
 FieldIn (suc i) (f ∷ fs) z = FieldIn i fs z
 
-is-within : (f : Field) (z : ℤ) → within f z ≡ true → In f z
+pub is-within : (f : Field) (z : ℤ) → within f z ≡ true → In f z
 is-within f z e =
     let b = both (leZ (f .least) z) (leZ z (f .greatest)) e in
     record { low = tests-le (f .least) z .yes (b .0); high = tests-le z (f .greatest) .yes (b .1) }
+
+pub within-is : (f : Field) (z : ℤ) → In f z → within f z ≡ true
+within-is f z h = rw (tests-le (f .least) z .back (h .low), tests-le z (f .greatest) .back (h .high))
 
 ranged : (fs : List Field) (zs : List ℤ) → inRanges fs zs ≡ true → (i : ℕ) → FieldIn i fs (getD zs i (pos 0))
 unfolding inRanges
@@ -49,10 +52,7 @@ unfolding inRanges
 in-ranges [] [] h = refl
 in-ranges [] (z ∷ zs) h = absurd h
 in-ranges (f ∷ fs) [] h = absurd h
-in-ranges (f ∷ fs) (z ∷ zs) h =
-    let low = tests-le (f .least) z .back (h .0 .low) in
-    let high = tests-le z (f .greatest) .back (h .0 .high) in
-    rw (low, high) (in-ranges fs zs (h .1))
+in-ranges (f ∷ fs) (z ∷ zs) h = rw (within-is f z (h .0)) (in-ranges fs zs (h .1))
 
 pub field-in : (l : Line) (row : Row) → fits l row ≡ true → (i : ℕ) → FieldIn i (l .fields) (at row i)
 field-in l row h = ranged (l .fields) (row .numbers) (is-fit l row h .inside)

@@ -11,19 +11,19 @@ use lib.Dec.{ltb}
 use borrow.Author.Tests.{ltb-true, ltb-false}
 use Rattle.sheet.specs.declared.Refusal.{Refusal}
 use Rattle.sheet.specs.declared.Refusal.the-variants.{TooLong, Surplus}
-use Rattle.sheet.specs.Refusals.{number}
 use Rattle.sheet.specs.Quantities.{sheetMost}
+use Rattle.sheet.specs.Refusals.{number, field}
 use Rattle.document.specs.Schema.{on}
 use Rattle.document.specs.Reader.{Sheet, Read, stopped, got, readLines, judgedWhole, Refused, Good, readOf}
 use Rattle.document.specs.Editions.{document}
 use Rattle.document.specs.Rows.{stagesIn, sectionsIn, wallsIn}
-use Rattle.document.specs.Order.{Looked, total, missing, AllGood, last, First, tooLong, unformed, outside, broken, surplus, ofAll, Exactly}
+use Rattle.document.specs.Order.{Looked, AllGood, last, First, tooLong, ofLine, ofRule, surplus, ofAll, Exactly}
 use Rattle.document.proofs.Cases.{clash}
-use Rattle.document.proofs.Rules.{whole-said}
+use Rattle.document.proofs.Rules.{whole-said, whole-field}
 use Rattle.document.proofs.Whole.{lines-got}
-use Rattle.document.proofs.KeyRules.{row-said, row-number}
+use Rattle.document.proofs.KeyRules.{row-said}
 use Rattle.document.proofs.GoodLines.{lines-good}
-use Rattle.document.proofs.Stopping.{Fault, unsaid, beyond, ruledOut, stops-fault}
+use Rattle.document.proofs.Stopping.{Fault, unfit, ruledOut, stops-fault}
 use Rattle.document.proofs.Order.{due-sound, good-read, first-heard}
 use Rattle.document.proofs.Causes.{lines-stopped}
 
@@ -34,24 +34,24 @@ good-line s sheet n left e =
     let b : readLines document 1 s ≡ got sheet (last sheet) left = ap (readLines document 1) (a .whole) ∙ good-read sheet left (a .kept) in
     (record { good = lines-good sheet .to (a .kept); whole = a .whole }, cc)
 
-fault-first : (s : List ℕ) (x : Refusal) (n : ℕ) (a : Looked s) → n ≡ a .at .number → Fault (a .at) x → First s (number x) n
-fault-first s x n a f (unsaid e h) = unformed e a f h
-fault-first s x n a f (beyond e row h k) = outside e a f row h k
-fault-first s x n a f (ruledOut row h q) = broken a f row h (row-said (a .at .line .key) (a .at .above) row x q)
+fault-first : (s : List ℕ) (x : Refusal) (n : ℕ) (a : Looked s) → n ≡ a .at .number → Fault (a .at) x → First s (number x) n (field x)
+fault-first s x n a f (unfit h) = ofLine a f h
+fault-first s x n a f (ruledOut row h q) = ofRule a f row h (row-said (a .at .line .key) (a .at .above) row x q)
 
-pub heard-first : (s : List ℕ) (x : Refusal) (n : ℕ) → readOf document s ≡ Refused x n → First s (number x) n
+pub heard-first : (s : List ℕ) (x : Refusal) (n : ℕ) → readOf document s ≡ Refused x n → First s (number x) n (field x)
 unfolding readOf
 heard-first s x n e = here (ltb sheetMost (length s)) refl e
   where
     wholly : (sheet : Sheet) → AllGood s sheet [] → (o : Option Refusal) → document .whole sheet ≡ o
-        → on o (Good sheet) (λ r. Refused r 0) ≡ Refused x n → First s (number x) n
+        → on o (Good sheet) (λ r. Refused r 0) ≡ Refused x n → First s (number x) n (field x)
     wholly sheet g none q e = clash cc
     wholly sheet g (some y) q e =
         let z : y ≡ x = cc in
         let w : n ≡ 0 = cc in
-        ofAll w sheet g (whole-said (stagesIn sheet) (sectionsIn sheet) (wallsIn sheet) x (q ∙ ap some z))
+        ofAll w (whole-field (stagesIn sheet) (sectionsIn sheet) (wallsIn sheet) x (q ∙ ap some z)) sheet g
+        (whole-said (stagesIn sheet) (sectionsIn sheet) (wallsIn sheet) x (q ∙ ap some z))
 
-    lines : (r : Read Sheet) → readLines document 1 s ≡ r → length s ≤ sheetMost → judgedWhole document r ≡ Refused x n → First s (number x) n
+    lines : (r : Read Sheet) → readLines document 1 s ≡ r → length s ≤ sheetMost → judgedWhole document r ≡ Refused x n → First s (number x) n (field x)
     lines (stopped y m) q short e =
         let f : readLines document 1 s ≡ stopped x n = q ∙ cc in
         let a = lines-stopped n s x f in
@@ -60,27 +60,18 @@ heard-first s x n e = here (ltb sheetMost (length s)) refl e
     lines (got sheet m (b ∷ left)) q short e =
         let g = good-line s sheet m (b ∷ left) q in
         let z : x ≡ Surplus = cc in
-        surplus (ap number z) short sheet b left (g .0) cc
+        surplus (ap number z) (ap field z) short sheet b left (g .0) cc
     lines (got sheet m []) q short e = wholly sheet (good-line s sheet m [] q .0) (document .whole sheet) refl e
 
     here : (t : Bool) → ltb sheetMost (length s) ≡ t → cond t (Refused TooLong 0) (judgedWhole document (readLines document 1 s)) ≡ Refused x n
-        → First s (number x) n
-    here true q e = let z : x ≡ TooLong = cc in let w : n ≡ 0 = cc in tooLong (ap number z) w (ltb-true sheetMost (length s) q)
+        → First s (number x) n (field x)
+    here true q e = let z : x ≡ TooLong = cc in let w : n ≡ 0 = cc in tooLong (ap number z) w (ap field z) (ltb-true sheetMost (length s) q)
     here false q e = lines (readLines document 1 s) refl (ltb-false sheetMost (length s) q) e
 
 -- and it is given exactly then
-pub exactly : (s : List ℕ) (k n : ℕ) → Exactly s k n
-exactly s k n = record {
-  first = λ h. subst (λ (i : ℕ). First s i n) (h .numbered) (heard-first s (h .refusal) n (h .is));
+pub exactly : (s : List ℕ) (k n i : ℕ) → Exactly s k n i
+exactly s k n i = record {
+  first = λ h.
+      subst (λ (j : ℕ). First s k n j) (h .fielded) (subst (λ (j : ℕ). First s j n (field (h .refusal))) (h .numbered) (heard-first s (h .refusal) n (h .is)));
   heard = first-heard;
 }
-
--- none is 11, which is said of the room
-pub first-number : {s : List ℕ} {k n : ℕ} → First s k n → k ≤ 10
-first-number (tooLong e f h) = omega arith
-first-number (unformed e a f n) = omega arith
-first-number (outside e a f row h n) = omega arith
-first-number (broken a f row h fault) = row-number fault
-first-number (surplus e short sheet b left g f) = omega arith
-first-number (ofAll f sheet g (total e n)) = omega arith
-first-number (ofAll f sheet g (missing e t n)) = omega arith

@@ -1,7 +1,7 @@
 -- The rule of a line by its key: it says nothing just where the row keeps the plain rules of the key, and what it says is wrong with the row.
 -- Assumes nothing.
 use Prim.Native.Nat.{ℕ, _+_, _≤_}
-use mathlib.Core.Path.{_≡_, refl, sym, ap, ap₂, subst}
+use mathlib.Core.Path.{_≡_, refl, sym, ap, ap₂, subst, _∙_}
 use mathlib.Core.List.{List, [], _∷_}
 use mathlib.Core.Logic.{_⊎_, inl, inr}
 use mathlib.Core.Option.{Option, none, some}
@@ -15,14 +15,14 @@ use borrow.Author.Tests.{eqb-true}
 use Rattle.text.specs.Bytes.{bytes}
 use Rattle.sheet.specs.declared.Refusal.{Refusal}
 use Rattle.sheet.specs.declared.Refusal.the-variants.{Material, Shares, SectionTwice, NoSuchWall, ReadTwice, Colder}
-use Rattle.sheet.specs.Refusals.{number}
+use Rattle.sheet.specs.Refusals.{number, field}
 use Rattle.sheet.specs.Shown.{same}
 use Rattle.sheet.specs.Firing.{Stage, Section, Wall}
 use Rattle.sheet.specs.Block.{sum}
 use Rattle.document.specs.Schema.{Row, at}
 use Rattle.document.specs.Reader.{Sheet, Rule, sameKey}
 use Rattle.document.specs.Rows.{sectionOf, editionIn, stagesIn, sectionsIn, wallAs, wallsIn}
-use Rattle.document.specs.Tests.{alike, weigh, airWeights, when, free, isListed, wallFault, material-rule, gas-rule, section-rule, wall-rule}
+use Rattle.document.specs.Tests.{alike, weigh, airWeights, when, _else_, free, isListed, isRead, wallFault, material-rule, gas-rule, section-rule, wall-rule}
 use Rattle.document.specs.Rules.{Some, Every, MaterialKeeps, GasKeeps, SameNumber, Listed}
 use Rattle.document.specs.GoodLines.{RowKeeps}
 use Rattle.document.specs.Order.{WallFault, elsewhere, twice, colder, RowFault, ofWare, ofSetter, ofPart, ofGas, ofSection, ofWall}
@@ -67,6 +67,13 @@ by-key C key (x ∷ xs) k h = here (sameKey key (x .key)) refl (by-key C key xs 
     here true q rest = k .0 (key-is key (x .key) q)
     here false q rest = rest
 
+-- what a rule says: a refusal with this number and this field
+pub record SaidOf (o : Option Refusal) (k i : ℕ) : Type 0 where
+  pub refusal : Refusal
+  pub is : o ≡ some refusal
+  pub numbered : number refusal ≡ k
+  pub fielded : field refusal ≡ i
+
 -- A TEST THAT SPOKE said its one refusal, and one that is not silent says it
 when-said : (t : Bool) (r x : Refusal) → when t r ≡ some x → (t ≡ true) × (x ≡ r)
 when-said true r x e = (refl, cc)
@@ -84,8 +91,8 @@ module _ (i : ℕ) (above : Sheet) (row : Row) where
   abbrev unsuited : Bool
   unsuited = alike (same (pos 0) (at row i)) (same (pos 0) (at row (i + 1)))
 
-  material-said : (x : Refusal) → material-rule i above row ≡ some x → (number x ≡ 4) × ¬ MaterialKeeps i row
-  material-said x e = (ap number (when-said unsuited (Material (i + 1)) x e .1), asks-said (material-asks i above row) e)
+  material-said : (x : Refusal) → material-rule i above row ≡ some x → (x ≡ Material (i + 1)) × ¬ MaterialKeeps i row
+  material-said x e = (when-said unsuited (Material (i + 1)) x e .1, asks-said (material-asks i above row) e)
 
   material-heard : ¬ MaterialKeeps i row → material-rule i above row ≡ some (Material (i + 1))
   material-heard n = when-some unsuited (Material (i + 1)) (λ q. n (material-asks i above row .to q))
@@ -95,8 +102,8 @@ module _ (above : Sheet) (row : Row) where
   abbrev unburnable : Bool
   unburnable = not (same (sum (λ z. z) (row .numbers)) (pos 10000) && ltZ (pos 0) (weigh airWeights (row .numbers)))
 
-  gas-said : (x : Refusal) → gas-rule above row ≡ some x → (number x ≡ 5) × ¬ GasKeeps row
-  gas-said x e = (ap number (when-said unburnable Shares x e .1), asks-said (gas-asks above row) e)
+  gas-said : (x : Refusal) → gas-rule above row ≡ some x → (x ≡ Shares) × ¬ GasKeeps row
+  gas-said x e = (when-said unburnable Shares x e .1, asks-said (gas-asks above row) e)
 
   gas-heard : ¬ GasKeeps row → gas-rule above row ≡ some Shares
   gas-heard n = when-some unburnable Shares (λ q. n (gas-asks above row .to q))
@@ -104,10 +111,10 @@ module _ (above : Sheet) (row : Row) where
   abbrev again : Bool
   again = isListed (sectionsIn above) (sectionOf row .number)
 
-  section-said : (x : Refusal) → section-rule above row ≡ some x → (number x ≡ 6) × Some (SameNumber (sectionOf row)) (sectionsIn above)
+  section-said : (x : Refusal) → section-rule above row ≡ some x → (x ≡ SectionTwice) × Some (SameNumber (sectionOf row)) (sectionsIn above)
   section-said x e =
       let w = when-said again SectionTwice x e in
-      (ap number (w .1), listed-test (sectionsIn above) (sectionOf row .number) .yes (w .0))
+      (w .1, listed-test (sectionsIn above) (sectionOf row .number) .yes (w .0))
 
   section-heard : Some (SameNumber (sectionOf row)) (sectionsIn above) → section-rule above row ≡ some SectionTwice
   section-heard t = when-some again SectionTwice (λ q. section-asks (sectionsIn above) (sectionOf row) .to q t)
@@ -122,10 +129,20 @@ module _ (stages : List Stage) (sections : List Section) (above : List Wall) (w 
       here true e = unstaged-heard stages sections above w (listed-test sections (w .section) .yes e) b
       here false e = unlisted-heard stages sections above w (λ l. let z = listed-test sections (w .section) .back l in clash cc)
 
-  wall-heard : (k : ℕ) → WallFault stages sections above w k → (r : Refusal) × (wallFault stages sections above w ≡ some r) × (number r ≡ k)
-  wall-heard k (elsewhere e n) = (NoSuchWall, six-heard n, sym e)
-  wall-heard k (twice e l t r) = (ReadTwice, twice-heard stages sections above w l t r, sym e)
-  wall-heard k (colder e l t n c) = (Colder, colder-heard stages sections above w l t n c, sym e)
+  wall-heard : (k : ℕ) → WallFault stages sections above w k → SaidOf (wallFault stages sections above w) k 0
+  wall-heard k (elsewhere e n) = record { refusal = NoSuchWall; is = six-heard n; numbered = sym e; fielded = refl }
+  wall-heard k (twice e l t r) = record { refusal = ReadTwice; is = twice-heard stages sections above w l t r; numbered = sym e; fielded = refl }
+  wall-heard k (colder e l t n c) = record { refusal = Colder; is = colder-heard stages sections above w l t n c; numbered = sym e; fielded = refl }
+
+  wall-whole : (x : Refusal) → wallFault stages sections above w ≡ some x → field x ≡ 0
+  wall-whole x e = here (isListed sections (w .section)) (ltZ (pos (length stages)) (w .stage)) (isRead above (w .section) (w .stage)) (ltZ (w .surface) (w .air)) e
+    where
+      here : (a b c d : Bool) → (when (not a) NoSuchWall else when b NoSuchWall else when c ReadTwice else when d Colder) ≡ some x → field x ≡ 0
+      here false b c d e = let z : x ≡ NoSuchWall = cc in ap field z
+      here true true c d e = let z : x ≡ NoSuchWall = cc in ap field z
+      here true false true d e = let z : x ≡ ReadTwice = cc in ap field z
+      here true false false true e = let z : x ≡ Colder = cc in ap field z
+      here true false false false e = clash cc
 
 -- THE RULE OF A KEY ASKS FOR THE PLAIN RULES
 module _ (key : List ℕ) (above : Sheet) (row : Row) where
@@ -163,36 +180,42 @@ module _ (key : List ℕ) (above : Sheet) (row : Row) where
       }
 
   -- what it says is wrong with the row
-  pub row-said : (x : Refusal) → ruleFor key above row ≡ some x → RowFault key above row (number x)
+  pub row-said : (x : Refusal) → ruleFor key above row ≡ some x → RowFault key above row (number x) (field x)
   unfolding ruleFor
-  row-said x = by-key (λ rule. rule above row ≡ some x → RowFault key above row (number x)) key rulings
-      ((λ k e. let m = material-said 3 above row x e in ofWare (m .0) k (m .1))
-      & (λ k e. let m = material-said 2 above row x e in ofSetter (m .0) k (m .1))
-      & (λ k e. let m = material-said 1 above row x e in ofPart (m .0) k (m .1))
-      & (λ k e. let m = gas-said above row x e in ofGas (m .0) k (m .1))
-      & (λ k e. let m = section-said above row x e in ofSection (m .0) k (m .1))
-      & (λ k e. ofWall k (wall-said (stagesIn above) (sectionsIn above) (wallsIn above) reading x e))
+  row-said x = by-key (λ rule. rule above row ≡ some x → RowFault key above row (number x) (field x)) key rulings
+      ((λ k e. let m = material-said 3 above row x e in ofWare (ap number (m .0)) (ap field (m .0)) k (m .1))
+      & (λ k e. let m = material-said 2 above row x e in ofSetter (ap number (m .0)) (ap field (m .0)) k (m .1))
+      & (λ k e. let m = material-said 1 above row x e in ofPart (ap number (m .0)) (ap field (m .0)) k (m .1))
+      & (λ k e. let m = gas-said above row x e in ofGas (ap number (m .0)) (ap field (m .0)) k (m .1))
+      & (λ k e. let m = section-said above row x e in ofSection (ap number (m .0)) (ap field (m .0)) k (m .1))
+      & (λ k e.
+      let whole = wall-whole (stagesIn above) (sectionsIn above) (wallsIn above) reading x e in
+      ofWall whole k (wall-said (stagesIn above) (sectionsIn above) (wallsIn above) reading x e))
       & tt) (λ e. clash cc)
 
   -- and whatever is wrong with the row it says
-  pub row-heard : (n : ℕ) → RowFault key above row n → (r : Refusal) × (ruleFor key above row ≡ some r) × (number r ≡ n)
+  pub row-heard : (n i : ℕ) → RowFault key above row n i → SaidOf (ruleFor key above row) n i
   unfolding ruleFor
-  row-heard n (ofWare e k h) = (Material 4, keyed k (material-heard 3 above row h), sym e)
-  row-heard n (ofSetter e k h) = (Material 3, keyed k (material-heard 2 above row h), sym e)
-  row-heard n (ofPart e k h) = (Material 2, keyed k (material-heard 1 above row h), sym e)
-  row-heard n (ofGas e k h) = (Shares, keyed k (gas-heard above row h), sym e)
-  row-heard n (ofSection e k h) = (SectionTwice, keyed k (section-heard above row h), sym e)
-  row-heard n (ofWall k f) =
-      let a = wall-heard (stagesIn above) (sectionsIn above) (wallsIn above) reading n f in
-      (a .0, keyed k (a .1), a .2)
+  row-heard n i (ofWare e f k h) = record { refusal = Material 4; is = keyed k (material-heard 3 above row h); numbered = sym e; fielded = sym f }
+  row-heard n i (ofSetter e f k h) = record { refusal = Material 3; is = keyed k (material-heard 2 above row h); numbered = sym e; fielded = sym f }
+  row-heard n i (ofPart e f k h) = record { refusal = Material 2; is = keyed k (material-heard 1 above row h); numbered = sym e; fielded = sym f }
+  row-heard n i (ofGas e f k h) = record { refusal = Shares; is = keyed k (gas-heard above row h); numbered = sym e; fielded = sym f }
+  row-heard n i (ofSection e f k h) = record { refusal = SectionTwice; is = keyed k (section-heard above row h); numbered = sym e; fielded = sym f }
+  row-heard n i (ofWall f k h) =
+      let a = wall-heard (stagesIn above) (sectionsIn above) (wallsIn above) reading n h in
+      record { refusal = a .refusal; is = keyed k (a .is); numbered = a .numbered; fielded = a .fielded ∙ sym f }
 
--- none is above 10
-pub row-number : {key : List ℕ} {above : Sheet} {row : Row} {k : ℕ} → RowFault key above row k → k ≤ 10
-row-number (ofWare e k n) = omega arith
-row-number (ofSetter e k n) = omega arith
-row-number (ofPart e k n) = omega arith
-row-number (ofGas e k n) = omega arith
-row-number (ofSection e k t) = omega arith
-row-number (ofWall k (elsewhere e n)) = omega arith
-row-number (ofWall k (twice e l t r)) = omega arith
-row-number (ofWall k (colder e l t n c)) = omega arith
+-- none is above 10, and no field above 4 is named
+pub record Few (k i : ℕ) : Type 0 where
+  pub number : k ≤ 10
+  pub field : i ≤ 4
+
+pub row-few : {key : List ℕ} {above : Sheet} {row : Row} {k i : ℕ} → RowFault key above row k i → Few k i
+row-few (ofWare e f k n) = record { number = omega arith; field = omega arith }
+row-few (ofSetter e f k n) = record { number = omega arith; field = omega arith }
+row-few (ofPart e f k n) = record { number = omega arith; field = omega arith }
+row-few (ofGas e f k n) = record { number = omega arith; field = omega arith }
+row-few (ofSection e f k t) = record { number = omega arith; field = omega arith }
+row-few (ofWall f k (elsewhere e n)) = record { number = omega arith; field = omega arith }
+row-few (ofWall f k (twice e l t r)) = record { number = omega arith; field = omega arith }
+row-few (ofWall f k (colder e l t n c)) = record { number = omega arith; field = omega arith }

@@ -23,6 +23,8 @@ pub mod Readings
 pub mod Example
 pub mod KeyRules
 pub mod GoodLines
+pub mod Said
+pub mod Faults
 pub mod Stopping
 pub mod Order
 pub mod Causes

@@ -5,32 +5,34 @@ use mathlib.Core.Path.{_≡_, refl, sym, ap, subst, _∙_}
 use mathlib.Core.List.{List, [], _∷_, _++_, append-assoc, append-nil}
 use mathlib.Core.Logic.{inl, inr}
 use mathlib.Core.Option.{none, some}
-use mathlib.Core.Bool.{true}
+use mathlib.Core.Bool.{Bool, true, _&&_}
 use native.Mathlib.Omega.{arith}
 use lib.ListN.{length}
 use lib.Seq.{append-snoc}
-use lib.IntN.{pos}
-use borrow.Author.Tests.{le-ltb, lt-ltb}
+use lib.Dec.{leb, lit≤}
+use lib.IntN.{ℤ, pos}
+use borrow.Author.Tests.{le-ltb, lt-ltb, leb-true}
 use Rattle.sheet.specs.declared.Refusal.{Refusal}
 use Rattle.sheet.specs.declared.Refusal.the-variants.{TooLong, Surplus, Missing, GasTotal}
-use Rattle.sheet.specs.Refusals.{number}
+use Rattle.sheet.specs.Refusals.{number, field}
 use Rattle.sheet.specs.Firing.{Stage, Section, Wall}
-use Rattle.sheet.specs.Quantities.{sheetMost}
+use Rattle.sheet.specs.Quantities.{sheetMost, fieldsMost}
 use Rattle.document.specs.Schema.{Line, Row, plain, lineText, sound}
-use Rattle.document.specs.Reader.{Sheet, Rule, Paragraph, one, many, countLine, filled, paragraphText, rowsText, sheetText, textOf, behind, soundParagraph, soundParagraphs, Read, stopped, got, readLine, readRows, readParagraph, readParagraphs, readLines, RowsKeep, LinesKeep, readOf}
+use Rattle.document.specs.Reader.{Sheet, Rule, Paragraph, one, many, countLine, filled, paragraphText, rowsText, sheetText, textOf, behind, soundParagraph, soundParagraphs, Read, stopped, got, readLine, readRows, readParagraph, readParagraphs, readLines, RowsKeep, LinesKeep, Refused, readOf}
 use Rattle.document.specs.Tests.{wholeFault}
-use Rattle.document.specs.Editions.{document}
+use Rattle.document.specs.Editions.{entriesOf, linesOf, document}
 use Rattle.document.specs.Rules.{Every}
 use Rattle.document.specs.Rows.{editionIn, stagesIn, sectionsIn, wallsIn}
-use Rattle.document.specs.Order.{DueLine, InParagraph, InParagraphs, Due, Looked, WholeFault, total, missing, AllGood, last, First, tooLong, unformed, outside, broken, surplus, ofAll, Hears}
+use Rattle.document.specs.Order.{DueLine, InParagraph, InParagraphs, Due, Looked, WholeFault, total, missing, AllGood, last, First, tooLong, ofLine, ofRule, surplus, ofAll, Hears}
 use Rattle.document.proofs.Cases.{both}
 use Rattle.document.proofs.Blocks.{line-text, paragraph-text, paragraphs-text}
 use Rattle.document.proofs.Sizes.{never-too-long}
 use Rattle.document.proofs.Rules.{total-heard, missing-heard}
 use Rattle.document.proofs.Editions.{document-sound}
-use Rattle.document.proofs.KeyRules.{row-heard}
+use Rattle.document.proofs.KeyRules.{SaidOf, row-heard}
+use Rattle.document.proofs.Faults.{fault-judged}
 use Rattle.document.proofs.GoodLines.{ByKey, first-by-key, lines-by-key, rows-good, count-good, paragraph-good, lines-good}
-use Rattle.document.proofs.Stopping.{Stops, StopsWith, unsaid-stops, outside-stops, rule-stops}
+use Rattle.document.proofs.Stopping.{Stops, fault-stops, rule-stops}
 
 -- WHERE A LINE STOPS THE READER, reading stops: behind good rows
 module _ (l : Line) (rule : Rule) (seen : Sheet) (r : Refusal) where
@@ -103,41 +105,78 @@ lines-stop s d r (inr b) h =
     rw (b .whole, a) (paragraphs-stop below (f ∷ []) (behind (document .first) (f .rows) 1) (b .left) d r known (document-sound .below (f ∷ [])) (b .next) h)
 
 -- and this is heard
-hears : {s : List ℕ} {r : Refusal} (a : Looked s) → Stops r (a .at) → Hears s (number r) (a .at .number)
+hears : {s : List ℕ} {r : Refusal} {k i : ℕ} (a : Looked s) → Stops r (a .at) → number r ≡ k → field r ≡ i → Hears s k (a .at .number) i
 unfolding readOf
-hears {s} {r} a h = record { refusal = r; is = rw (le-ltb sheetMost (length s) (a .short), lines-stop s (a .at) r (a .due) h) refl; numbered = refl }
+hears {s} {r} a h e f = record {
+  refusal = r;
+  is = rw (le-ltb sheetMost (length s) (a .short), lines-stop s (a .at) r (a .due) h) refl;
+  numbered = e;
+  fielded = f;
+}
 
--- EVERY LINE THAT IS DUE IS SOUND
-paragraph-sound : (p : Paragraph) (seen : Sheet) (n : ℕ) (s : List ℕ) (d : DueLine) → soundParagraph p ≡ true → InParagraph p seen n s d
-    → sound (d .line) ≡ true
-paragraph-sound (one l rule) seen n s d k e = subst (λ (x : DueLine). sound (x .line) ≡ true) (sym e) k
-paragraph-sound (many key a b l rule) seen n s d k (inl e) =
-    subst (λ (x : DueLine). sound (x .line) ≡ true) (sym e) (both (sound (countLine key a b)) (sound l) k .0)
-paragraph-sound (many key a b l rule) seen n s d k (inr i) =
-    subst (λ (x : DueLine). sound (x .line) ≡ true) (sym (i .place)) (both (sound (countLine key a b)) (sound l) k .1)
+-- WHAT HOLDS OF EVERY LINE of the document holds of every line that is due
+module _ (Q : Line → Type 0) where
+  abbrev Lines : Paragraph → Type 0
+  Lines (one l rule) = Q l
+  Lines (many key a b l rule) = Q (countLine key a b) × Q l
 
-paragraphs-sound : (ps : List Paragraph) (seen : Sheet) (n : ℕ) (s : List ℕ) (d : DueLine) → soundParagraphs ps ≡ true → InParagraphs ps seen n s d
-    → sound (d .line) ≡ true
-paragraphs-sound [] seen n s d k i = absurd i
-paragraphs-sound (p ∷ ps) seen n s d k (inl i) = paragraph-sound p seen n s d (both (soundParagraph p) (soundParagraphs ps) k .0) i
-paragraphs-sound (p ∷ ps) seen n s d k (inr b) =
-    let f = b .said in
-    paragraphs-sound ps (seen ++ (f ∷ [])) (behind p (f .rows) n) (b .left) d (both (soundParagraph p) (soundParagraphs ps) k .1) (b .next)
+  paragraph-line : (p : Paragraph) (seen : Sheet) (n : ℕ) (s : List ℕ) (d : DueLine) → Lines p → InParagraph p seen n s d → Q (d .line)
+  paragraph-line (one l rule) seen n s d h e = subst (λ (x : DueLine). Q (x .line)) (sym e) h
+  paragraph-line (many key a b l rule) seen n s d h (inl e) = subst (λ (x : DueLine). Q (x .line)) (sym e) (h .0)
+  paragraph-line (many key a b l rule) seen n s d h (inr i) = subst (λ (x : DueLine). Q (x .line)) (sym (i .place)) (h .1)
+
+  paragraphs-line : (ps : List Paragraph) (seen : Sheet) (n : ℕ) (s : List ℕ) (d : DueLine) → Every Lines ps → InParagraphs ps seen n s d → Q (d .line)
+  paragraphs-line [] seen n s d h i = absurd i
+  paragraphs-line (p ∷ ps) seen n s d h (inl i) = paragraph-line p seen n s d (h .0) i
+  paragraphs-line (p ∷ ps) seen n s d h (inr b) =
+      let f = b .said in
+      paragraphs-line ps (seen ++ (f ∷ [])) (behind p (f .rows) n) (b .left) d (h .1) (b .next)
+
+  due-line : Lines (document .first) → ((top : Sheet) → Every Lines (document .below top)) → (s : List ℕ) (d : DueLine) → Due s d → Q (d .line)
+  due-line h k s d (inl i) = paragraph-line (document .first) [] 1 s d h i
+  due-line h k s d (inr b) =
+      let f = b .said in
+      paragraphs-line (document .below (f ∷ [])) (f ∷ []) (behind (document .first) (f .rows) 1) (b .left) d (k (f ∷ [])) (b .next)
+
+-- it is sound
+sound-lines : (ps : List Paragraph) → soundParagraphs ps ≡ true → Every (Lines (λ l. sound l ≡ true)) ps
+sound-lines [] k = tt
+sound-lines (one l rule ∷ ps) k = let t = both (sound l) (soundParagraphs ps) k in (t .0, sound-lines ps (t .1))
+sound-lines (many key a b l rule ∷ ps) k =
+    let t = both (soundParagraph (many key a b l rule)) (soundParagraphs ps) k in
+    (both (sound (countLine key a b)) (sound l) (t .0), sound-lines ps (t .1))
 
 pub due-sound : (s : List ℕ) (d : DueLine) → Due s d → sound (d .line) ≡ true
-due-sound s d (inl i) = paragraph-sound (document .first) [] 1 s d (document-sound .first) i
-due-sound s d (inr b) =
-    let f = b .said in
-    paragraphs-sound (document .below (f ∷ [])) (f ∷ []) (behind (document .first) (f .rows) 1) (b .left) d (document-sound .below (f ∷ [])) (b .next)
+due-sound = due-line (λ l. sound l ≡ true) (document-sound .first) (λ top. sound-lines (document .below top) (document-sound .below top))
+
+-- and has at most thirteen fields, by a look at them all
+abbrev narrow : List Paragraph → Bool
+narrow [] = true
+narrow (one l rule ∷ ps) = leb (length (l .fields)) fieldsMost && narrow ps
+narrow (many key a b l rule ∷ ps) = leb (length (l .fields)) fieldsMost && narrow ps
+
+narrow-lines : (ps : List Paragraph) → narrow ps ≡ true → Every (Lines (λ l. length (l .fields) ≤ fieldsMost)) ps
+narrow-lines [] k = tt
+narrow-lines (one l rule ∷ ps) k =
+    let t = both (leb (length (l .fields)) fieldsMost) (narrow ps) k in
+    (leb-true (length (l .fields)) fieldsMost (t .0), narrow-lines ps (t .1))
+narrow-lines (many key a b l rule ∷ ps) k =
+    let t = both (leb (length (l .fields)) fieldsMost) (narrow ps) k in
+    ((lit≤ tt, leb-true (length (l .fields)) fieldsMost (t .0)), narrow-lines ps (t .1))
+
+document-narrow : (edition : ℤ) → narrow (linesOf edition) ≡ true
+unfolding entriesOf
+document-narrow edition = refl
+
+pub due-narrow : (s : List ℕ) (d : DueLine) → Due s d → length (d .line .fields) ≤ fieldsMost
+due-narrow = due-line (λ l. length (l .fields) ≤ fieldsMost) (lit≤ tt) (λ top. narrow-lines (document .below top) (document-narrow (editionIn top)))
 
 -- WHAT IS WRONG WITH THE WHOLE is said
 whole-stops : (stages : List Stage) (sections : List Section) (walls : List Wall) (k : ℕ) → WholeFault stages sections walls k
-    → (r : Refusal) × (wholeFault stages sections walls ≡ some r) × (number r ≡ k)
-whole-stops stages sections walls k (total e n) = (GasTotal, total-heard stages sections walls n, sym e)
-whole-stops stages sections walls k (missing e t n) = (Missing, missing-heard stages sections walls t n, sym e)
-
-with-number : {s : List ℕ} {k : ℕ} (a : Looked s) → StopsWith k (a .at) → Hears s k (a .at .number)
-with-number {s} a x = subst (λ (i : ℕ). Hears s i (a .at .number)) (x .numbered) (hears a (x .stops))
+    → SaidOf (wholeFault stages sections walls) k 0
+whole-stops stages sections walls k (total e n) = record { refusal = GasTotal; is = total-heard stages sections walls n; numbered = sym e; fielded = refl }
+whole-stops stages sections walls k (missing e t n) =
+    record { refusal = Missing; is = missing-heard stages sections walls t n; numbered = sym e; fielded = refl }
 
 -- ALL LINES ARE GOOD
 pub good-read : (sheet : Sheet) (left : List ℕ) → LinesKeep document sheet → readLines document 1 (textOf document sheet ++ left) ≡ got sheet (last sheet) left
@@ -149,34 +188,38 @@ good-read (f ∷ fs) left k =
     let b = paragraphs-text below (f ∷ []) fs (behind (document .first) (f .rows) 1) left (document-sound .below (f ∷ [])) (k .1) in
     rw (append-assoc (paragraphText (document .first) (f .rows)) (sheetText below fs) left, a) b
 
-surplus-heard : (s : List ℕ) → length s ≤ sheetMost → (sheet : Sheet) (b : ℕ) (left : List ℕ) → AllGood s sheet (b ∷ left) → Hears s 2 (last sheet)
+surplus-heard : (s : List ℕ) → length s ≤ sheetMost → (sheet : Sheet) (b : ℕ) (left : List ℕ) → AllGood s sheet (b ∷ left)
+    → readOf document s ≡ Refused Surplus (last sheet)
 unfolding readOf
 surplus-heard s short sheet b left g =
     let e : readLines document 1 s ≡ got sheet (last sheet) (b ∷ left) = rw (g .whole) (good-read sheet (b ∷ left) (lines-good sheet .from (g .good))) in
-    record { refusal = Surplus; is = rw (le-ltb sheetMost (length s) short, e) refl; numbered = refl }
+    rw (le-ltb sheetMost (length s) short, e) refl
 
-whole-heard : (s : List ℕ) (sheet : Sheet) (r : Refusal) → AllGood s sheet [] → document .whole sheet ≡ some r → Hears s (number r) 0
+whole-heard : (s : List ℕ) (sheet : Sheet) (r : Refusal) → AllGood s sheet [] → document .whole sheet ≡ some r → readOf document s ≡ Refused r 0
 unfolding readOf
 whole-heard s sheet r g q =
     let kept = lines-good sheet .from (g .good) in
     let e : readLines document 1 s ≡ got sheet (last sheet) [] = rw (g .whole) (good-read sheet [] kept) in
     let is : s ≡ textOf document sheet = g .whole ∙ append-nil (textOf document sheet) in
     let short : length s ≤ sheetMost = rw is (never-too-long document document-sound sheet kept) in
-    record { refusal = r; is = rw (le-ltb sheetMost (length s) short, e, q) refl; numbered = refl }
+    rw (le-ltb sheetMost (length s) short, e, q) refl
 
 -- WHATEVER APPLIES FIRST IS HEARD
-as-said : {s : List ℕ} {i j m n : ℕ} → j ≡ i → n ≡ m → Hears s i m → Hears s j n
-as-said {s = s} {i = i} {n = n} e f h = subst (λ (k : ℕ). Hears s k n) (sym e) (subst (λ (m : ℕ). Hears s i m) (sym f) h)
+at-line : {s : List ℕ} {k m n i : ℕ} → n ≡ m → Hears s k m i → Hears s k n i
+at-line {s} {k} {i = i} f h = subst (λ (m : ℕ). Hears s k m i) (sym f) h
 
-pub first-heard : {s : List ℕ} {k n : ℕ} → First s k n → Hears s k n
+pub first-heard : {s : List ℕ} {k n i : ℕ} → First s k n i → Hears s k n i
 unfolding readOf
-first-heard {s} (tooLong e f h) = as-said e f (record { refusal = TooLong; is = rw (lt-ltb sheetMost (length s) h) refl; numbered = refl })
-first-heard (unformed e a f n) = as-said e f (with-number a (unsaid-stops (a .at) n))
-first-heard {s} (outside e a f row h n) = as-said e f (with-number a (outside-stops (a .at) (due-sound s (a .at) (a .due)) row h n))
-first-heard {s} {k} (broken a f row h fault) =
-    let x = row-heard (a .at .line .key) (a .at .above) row k fault in
-    as-said (sym (x .2)) f (hears a (rule-stops (a .at) (due-sound s (a .at) (a .due)) row h (x .0) (x .1)))
-first-heard {s} (surplus e short sheet b left g f) = as-said e f (surplus-heard s short sheet b left g)
-first-heard {s} {k} (ofAll f sheet g fault) =
+first-heard {s} (tooLong e f g h) =
+    at-line f (record { refusal = TooLong; is = rw (lt-ltb sheetMost (length s) h) refl; numbered = sym e; fielded = sym g })
+first-heard {s} {k} {i = i} (ofLine a f fault) =
+    let x = fault-judged (a .at .line) (a .at .rest) (due-sound s (a .at) (a .due)) k i fault in
+    at-line f (hears a (fault-stops (a .at) (x .refusal) (x .is)) (x .numbered) (x .fielded))
+first-heard {s} {k} {i = i} (ofRule a f row h fault) =
+    let x = row-heard (a .at .line .key) (a .at .above) row k i fault in
+    at-line f (hears a (rule-stops (a .at) (due-sound s (a .at) (a .due)) row h (x .refusal) (x .is)) (x .numbered) (x .fielded))
+first-heard {s} (surplus e g short sheet b left h f) =
+    at-line f (record { refusal = Surplus; is = surplus-heard s short sheet b left h; numbered = sym e; fielded = sym g })
+first-heard {s} {k} (ofAll f g sheet h fault) =
     let x = whole-stops (stagesIn sheet) (sectionsIn sheet) (wallsIn sheet) k fault in
-    as-said (sym (x .2)) f (whole-heard s sheet (x .0) g (x .1))
+    at-line f (record { refusal = x .refusal; is = whole-heard s sheet (x .refusal) h (x .is); numbered = x .numbered; fielded = x .fielded ∙ sym g })

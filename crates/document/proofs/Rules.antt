@@ -13,7 +13,7 @@ use lib.IntN.{ℤ, pos, negsuc}
 use lib.Signed.{leZ, ltZ, _≤ℤ_, _<ℤ_}
 use borrow.Author.Tests.{leb-true, le-leb, eqb-true, eqb-false}
 use Rattle.sheet.specs.declared.Refusal.{Refusal}
-use Rattle.sheet.specs.Refusals.{number}
+use Rattle.sheet.specs.Refusals.{number, field}
 use Rattle.sheet.specs.declared.Refusal.the-variants.{Material, Shares, SectionTwice, NoSuchWall, ReadTwice, Missing, Colder, GasTotal}
 use Rattle.sheet.specs.Shown.{same}
 use Rattle.sheet.specs.Firing.{Stage, Section, Wall}
@@ -225,6 +225,15 @@ module _ (stages : List Stage) (sections : List Section) (walls : List Wall) whe
       here false p b q e = let z : x ≡ GasTotal = cc in total (ap number z) (tests-yes total-test p)
       here true p false q e = let z : x ≡ Missing = cc in missing (ap number z) (total-test .yes p) (tests-yes all-read-test q)
       here true p true q e = clash cc
+
+  -- and of no line, so of no field
+  pub whole-field : (x : Refusal) → wholeFault stages sections walls ≡ some x → field x ≡ 0
+  whole-field x e = here (within gasTotal (totalGas stages)) (all (λ y. all (isRead walls (y .number)) (counted (length stages))) sections) e
+    where
+      here : (a b : Bool) → (when (not a) GasTotal else when (not b) Missing) ≡ some x → field x ≡ 0
+      here false b e = let z : x ≡ GasTotal = cc in ap field z
+      here true false e = let z : x ≡ Missing = cc in ap field z
+      here true true e = clash cc
 
   pub total-heard : ¬ TotalKeeps stages → wholeFault stages sections walls ≡ some GasTotal
   total-heard n = rw (tests-no total-test n)

@@ -9,4 +9,5 @@ pub mod Editions
 pub mod Rules
 pub mod Lawful
 pub mod GoodLines
+pub mod Faults
 pub mod Order

@@ -1,24 +1,25 @@
--- THE FIRST REFUSAL THAT APPLIES, as in document 01: 1 first; then the lines from the top, in each 2 before 3, 3 before the others, these by
--- rising number; then 10, then 8. A line is looked at where it is due: all lines above it are good.
+-- THE FIRST REFUSAL THAT APPLIES, as in document 01 and, for the lines, T-01 of document 02: 1 first; then the lines from the top, in each 13, 2, 12, 3,
+-- then the others by rising number; then 10, then 8. A line is looked at where it is due: all lines above it are good.
 use Prim.Native.Nat.{ℕ, suc, _+_, _≤_, _<_}
 use mathlib.Core.Path.{_≡_}
 use mathlib.Core.List.{List, [], _∷_, _++_}
 use mathlib.Core.Logic.{_⊎_}
 use lib.ListN.{length}
-use lib.IntN.{pos, natAbs}
+use lib.IntN.{pos}
 use lib.Signed.{_<ℤ_}
 use Rattle.text.specs.Bytes.{bytes}
 use Rattle.sheet.specs.declared.Refusal.{Refusal}
-use Rattle.sheet.specs.Refusals.{number}
+use Rattle.sheet.specs.Refusals.{number, field}
 use Rattle.sheet.specs.Firing.{Stage, Section, Wall}
 use Rattle.sheet.specs.Quantities.{to, sheetMost}
 use Rattle.document.specs.Schema.{Line, Row, plain, lineText}
 use Rattle.document.specs.Reader.{Filled, Sheet, Paragraph, one, many, countLine, filled, paragraphText, rowsText, textOf, behind, behindAll, Refused, readOf}
 use Rattle.document.specs.Editions.{document}
 use Rattle.document.specs.Rows.{sectionOf, editionIn, stagesIn, sectionsIn, wallAs, wallsIn}
-use Rattle.document.specs.Rules.{Some, Every, MaterialKeeps, GasKeeps, SameNumber, Listed, Staged, SameReading, AllRead, TotalKeeps}
-use Rattle.document.specs.Lawful.{In, InRanges}
+use Rattle.document.specs.Rules.{Some, MaterialKeeps, GasKeeps, SameNumber, Listed, Staged, SameReading, AllRead, TotalKeeps}
+use Rattle.document.specs.Lawful.{In}
 use Rattle.document.specs.GoodLines.{GoodRows, GoodParagraph, GoodLines}
+use Rattle.document.specs.Faults.{SaysIn, LineFault}
 
 -- A LINE THAT IS DUE: its number, its key and fields, all that stands above it (under its own key the rows of its block so far), and the
 -- text from it on
@@ -60,19 +61,6 @@ Due s d =
     InParagraph (document .first) [] 1 s d
     ⊎ Behind (document .first) [] 1 s (λ f m left. InParagraphs (document .below (f ∷ [])) (f ∷ []) m left d)
 
--- THE FORM OF A LINE: its key, as many numbers as it has fields, each of at most nine digits, and its LF
-pub record Says (d : DueLine) (row : Row) : Type 0 where
-  pub nameless : row .name ≡ []
-  pub many : length (row .numbers) ≡ length (d .line .fields)
-  pub small : Every (λ z. natAbs z < 1000000000) (row .numbers)
-  pub more : List ℕ
-  pub whole : d .rest ≡ lineText (d .line) row ++ more
-
--- .. and in its ranges
-pub record SaysIn (d : DueLine) (row : Row) : Type 0 where
-  pub says : Says d row
-  pub within : InRanges (d .line .fields) (row .numbers)
-
 -- A LINE OF A TEXT that is looked at
 pub record Looked (s : List ℕ) : Type 0 where
   pub short : length s ≤ sheetMost
@@ -85,14 +73,15 @@ pub data WallFault (stages : List Stage) (sections : List Section) (above : List
   twice : k ≡ 7 → Listed sections w → Staged stages w → Some (SameReading w) above → WallFault stages sections above w k
   colder : k ≡ 9 → Listed sections w → Staged stages w → ¬ Some (SameReading w) above → w .surface <ℤ w .air → WallFault stages sections above w k
 
--- .. with a row, by the rules of its key and given all that stands above it: 4 to 9
-pub data RowFault (key : List ℕ) (above : Sheet) (row : Row) (k : ℕ) : Type 0 where
-  ofWare : k ≡ 4 → key ≡ bytes "ware" → ¬ MaterialKeeps 3 row → RowFault key above row k
-  ofSetter : k ≡ 4 → key ≡ bytes "setter" → ¬ MaterialKeeps 2 row → RowFault key above row k
-  ofPart : k ≡ 4 → key ≡ bytes "part" → ¬ MaterialKeeps 1 row → RowFault key above row k
-  ofGas : k ≡ 5 → key ≡ bytes "gas" → ¬ GasKeeps row → RowFault key above row k
-  ofSection : k ≡ 6 → key ≡ bytes "section" → Some (SameNumber (sectionOf row)) (sectionsIn above) → RowFault key above row k
-  ofWall : key ≡ bytes "wall" → WallFault (stagesIn above) (sectionsIn above) (wallsIn above) (wallAs (editionIn above) row) k → RowFault key above row k
+-- .. with a row, by the rules of its key and given all that stands above it: 4 to 9; 4 names the material's field
+pub data RowFault (key : List ℕ) (above : Sheet) (row : Row) (k i : ℕ) : Type 0 where
+  ofWare : k ≡ 4 → i ≡ 4 → key ≡ bytes "ware" → ¬ MaterialKeeps 3 row → RowFault key above row k i
+  ofSetter : k ≡ 4 → i ≡ 3 → key ≡ bytes "setter" → ¬ MaterialKeeps 2 row → RowFault key above row k i
+  ofPart : k ≡ 4 → i ≡ 2 → key ≡ bytes "part" → ¬ MaterialKeeps 1 row → RowFault key above row k i
+  ofGas : k ≡ 5 → i ≡ 0 → key ≡ bytes "gas" → ¬ GasKeeps row → RowFault key above row k i
+  ofSection : k ≡ 6 → i ≡ 0 → key ≡ bytes "section" → Some (SameNumber (sectionOf row)) (sectionsIn above) → RowFault key above row k i
+  ofWall : i ≡ 0 → key ≡ bytes "wall"
+      → WallFault (stagesIn above) (sectionsIn above) (wallsIn above) (wallAs (editionIn above) row) k → RowFault key above row k i
 
 -- .. with a whole sheet: 10, then 8
 pub data WholeFault (stages : List Stage) (sections : List Section) (walls : List Wall) (k : ℕ) : Type 0 where
@@ -109,24 +98,25 @@ abbrev pub last : Sheet → ℕ
 last [] = 1
 last (f ∷ fs) = behindAll (document .below (f ∷ [])) fs (behind (document .first) (f .rows) 1)
 
--- THE FIRST REFUSAL THAT APPLIES to a text is number k, at line n
-pub data First (s : List ℕ) (k n : ℕ) : Type 0 where
-  tooLong : k ≡ 1 → n ≡ 0 → sheetMost < length s → First s k n
+-- THE FIRST REFUSAL THAT APPLIES to a text is number k, at line n and field i; 0 is the whole sheet's line and the whole line's field
+pub data First (s : List ℕ) (k n i : ℕ) : Type 0 where
+  tooLong : k ≡ 1 → n ≡ 0 → i ≡ 0 → sheetMost < length s → First s k n i
   -- the lines from the top: a line is due, and ..
-  unformed : k ≡ 2 → (a : Looked s) → n ≡ a .at .number → ((row : Row) → ¬ Says (a .at) row) → First s k n
-  outside : k ≡ 3 → (a : Looked s) → n ≡ a .at .number → (row : Row) → Says (a .at) row → ¬ InRanges (a .at .line .fields) (row .numbers) → First s k n
-  broken : (a : Looked s) → n ≡ a .at .number → (row : Row) → SaysIn (a .at) row → RowFault (a .at .line .key) (a .at .above) row k → First s k n
+  ofLine : (a : Looked s) → n ≡ a .at .number → LineFault (a .at .line) (a .at .rest) k i → First s k n i
+  ofRule : (a : Looked s) → n ≡ a .at .number → (row : Row) → SaysIn (a .at .line) (a .at .rest) row
+      → RowFault (a .at .line .key) (a .at .above) row k i → First s k n i
   -- all lines are good, and bytes follow `end`; or nothing follows
-  surplus : k ≡ 2 → length s ≤ sheetMost → (sheet : Sheet) (b : ℕ) (left : List ℕ) → AllGood s sheet (b ∷ left) → n ≡ last sheet → First s k n
-  ofAll : n ≡ 0 → (sheet : Sheet) → AllGood s sheet [] → WholeFault (stagesIn sheet) (sectionsIn sheet) (wallsIn sheet) k → First s k n
+  surplus : k ≡ 13 → i ≡ 0 → length s ≤ sheetMost → (sheet : Sheet) (b : ℕ) (left : List ℕ) → AllGood s sheet (b ∷ left) → n ≡ last sheet → First s k n i
+  ofAll : n ≡ 0 → i ≡ 0 → (sheet : Sheet) → AllGood s sheet [] → WholeFault (stagesIn sheet) (sectionsIn sheet) (wallsIn sheet) k → First s k n i
 
--- what is said to a text: a refusal with this number and this line
-pub record Hears (s : List ℕ) (k n : ℕ) : Type 0 where
+-- what is said to a text: a refusal with this number, this line and this field
+pub record Hears (s : List ℕ) (k n i : ℕ) : Type 0 where
   pub refusal : Refusal
   pub is : readOf document s ≡ Refused refusal n
   pub numbered : number refusal ≡ k
+  pub fielded : field refusal ≡ i
 
 -- A REFUSAL IS GIVEN EXACTLY WHEN it is the first that applies
-pub record Exactly (s : List ℕ) (k n : ℕ) : Type 0 where
-  pub first : Hears s k n → First s k n
-  pub heard : First s k n → Hears s k n
+pub record Exactly (s : List ℕ) (k n i : ℕ) : Type 0 where
+  pub first : Hears s k n i → First s k n i
+  pub heard : First s k n i → Hears s k n i

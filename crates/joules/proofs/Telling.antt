@@ -1,6 +1,6 @@
 -- What the program prints, by what the reader answered. Assumes nothing.
 use Prim.Native.Nat.{ℕ}
-use mathlib.Core.Path.{_≡_, refl, ap}
+use mathlib.Core.Path.{_≡_, refl, ap₂}
 use mathlib.Core.List.{List}
 use Rattle.document.specs.Rows.{firingOf}
 use Rattle.formulas.specs.Report.{joulesText}
@@ -15,6 +15,6 @@ module _ (s : List ℕ) (r : Outcome) where
   heats-told a = rw (a .good) refl
 
   -- a refused one's refusal
-  pub refusal-told : (d : Denied s (r .number) (r .line)) → refusedText (r .number) (r .line) ≡ joulesOf s
+  pub refusal-told : (d : Denied s (r .number) (r .line) (r .field)) → refusedText (r .number) (r .line) (r .field) ≡ joulesOf s
   unfolding joulesOf
-  refusal-told d = rw (d .is) (ap (λ (n : ℕ). refusedText n (r .line)) (d .numbers))
+  refusal-told d = rw (d .is) (ap₂ (λ (n i : ℕ). refusedText n (r .line) i) (d .numbers) (d .fields))

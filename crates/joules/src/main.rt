@@ -1,4 +1,4 @@
-// Reads a sheet on standard input and prints its heats in joules, or `refused=NUMBER,LINE`. Where standard input cannot be read to its end
+// Reads a sheet on standard input and prints its heats in joules, or `refused=NUMBER,LINE,FIELD`. Where standard input cannot be read to its end
 // nothing is printed, and standard error says so, as it does where what was printed could not be written.
 mod program;
 

@@ -21,6 +21,6 @@ pub fn print(room: &[u8], n: usize, out: &mut [u8; 1024]) -> usize
         let sheet = r.sheet;
         return report::write_heats(out, heat::balance(sheet));
     }
-    let a = refused(r.number, r.line);
-    refusal_text(out, a.refusal, a.line)
+    let a = refused(r.number, r.line, r.field);
+    refusal_text(out, a)
 }

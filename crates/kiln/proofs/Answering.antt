@@ -4,7 +4,7 @@ use mathlib.Core.Path.{_≡_, refl, sym, _∙_, subst}
 use mathlib.Core.List.{List}
 use lib.ListN.{length}
 use Rattle.sheet.specs.declared.Refusal.{Refusal}
-use Rattle.sheet.specs.Refusals.{number}
+use Rattle.sheet.specs.Refusals.{number, field}
 use Rattle.document.specs.Reader.{Sheet, Refused, Good, readOf}
 use Rattle.document.specs.Editions.{document}
 use Rattle.document.specs.Rows.{firingOf}
@@ -41,7 +41,7 @@ module _ (s : List ℕ) {sheet : Sheet} (good : readOf document s ≡ Good sheet
 
 -- A SHEET THAT IS REFUSED
 module _ (s : List ℕ) {x : Refusal} {n : ℕ} (bad : readOf document s ≡ Refused x n) where
-  pub answer-bad : (room : ℕ) → refusedAs (number x) n ≡ answerOf s room
+  pub answer-bad : (room : ℕ) → refusedAs (number x) n (field x) ≡ answerOf s room
   unfolding answerOf
   answer-bad room = rw bad refl
 
@@ -49,7 +49,7 @@ module _ (s : List ℕ) {x : Refusal} {n : ℕ} (bad : readOf document s ≡ Ref
   unfolding bufferOf
   buffer-bad old = rw bad refl
 
-  pub printed-bad : refusedText (number x) n ≡ printedOf s
+  pub printed-bad : refusedText (number x) n (field x) ≡ printedOf s
   unfolding printedOf
   printed-bad = rw bad refl
 

@@ -22,7 +22,7 @@ use Rattle.kiln.proofs.Answering.{answer-good, buffer-good, printed-goo
 module _ (s old new : List ℕ) (a : Answer) (short : Short s) (room : reportMost ≤ length old)
     (is-answer : a ≡ answerOf s (length old)) (is-buffer : new ≡ bufferOf s old) where
   -- an accepted sheet's report has room
-  good-answer : (sheet : Sheet) → readOf document s ≡ Good sheet → a ≡ record { refusal = 0; line = 0; length = length (report (firingOf sheet)) }
+  good-answer : (sheet : Sheet) → readOf document s ≡ Good sheet → a ≡ record { refusal = 0; line = 0; field = 0; length = length (report (firingOf sheet)) }
   good-answer sheet e = is-answer ∙ sym (enough (report (firingOf sheet)) (length old) (le-trans (short sheet e) room) refl ∙ answer-good s e (length old))
 
   pub report-told : a .refusal ≡ 0 → Written 0 (printedOf s) old new (a .length) × (a .length ≤ reportMost)
@@ -39,11 +39,11 @@ module _ (s old new : List ℕ) (a : Answer) (short : Short s) (room : reportMos
           let ends = size ∙ sym (zero-add (length (report (firingOf sheet)))) in
           (rw (← printed-good s e) (record { ends = ends; holds = holds }), omega (arith, size, short sheet e))
 
-  pub refusal-told : 0 < a .refusal → (refusedText (a .refusal) (a .line) ≡ printedOf s) × (new ≡ old)
+  pub refusal-told : 0 < a .refusal → (refusedText (a .refusal) (a .line) (a .field) ≡ printedOf s) × (new ≡ old)
   refusal-told some = here (readOf document s) refl
     where
-      here : (r : lines.Answer) → readOf document s ≡ r → (refusedText (a .refusal) (a .line) ≡ printedOf s) × (new ≡ old)
+      here : (r : lines.Answer) → readOf document s ≡ r → (refusedText (a .refusal) (a .line) (a .field) ≡ printedOf s) × (new ≡ old)
       here (Refused x n) e =
-          let numbers = ap (λ (y : Answer). refusedText (y .refusal) (y .line)) (is-answer ∙ sym (answer-bad s e (length old))) in
+          let numbers = ap (λ (y : Answer). refusedText (y .refusal) (y .line) (y .field)) (is-answer ∙ sym (answer-bad s e (length old))) in
           (numbers ∙ printed-bad s e, is-buffer ∙ sym (buffer-bad s e old))
       here (Good sheet) e = absurd (omega (arith, some, ap (λ (y : Answer). y .refusal) (good-answer sheet e)))

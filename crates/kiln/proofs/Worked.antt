@@ -25,10 +25,10 @@ text : printedOf sheet ≡ bytes "firing=7\nq1=7000000\nq2=0\nq3=0\nq5=0\nq8=0\n
 unfolding printedOf readOf entriesOf readParagraphs readRows readLine judge formedBy upTo begins pieces numbersOf numberWithin unsigned digitsRead outsideOf report keys figures lines heats linesText printed line decimal digits digitsIn nearest nearestℕ tie root rootIn sum specificHeat sensible gasHeat mixedHeat theoreticalAir dryOfGas vapourOfGas ofGas dryFlue vapourRate vapour dryHeat vapourHeat flueHeat monoxideHeat numbered convection radiation flux wallHeat q1 q2 q3 q5 q8 x1 x2 x3 x5 x7 x8 x9 x10 total x11 waterHeat useful withset
 text = refl
 
-room : answerOf sheet 192 ≡ record { refusal = 0; line = 0; length = 192 }
+room : answerOf sheet 192 ≡ record { refusal = 0; line = 0; field = 0; length = 192 }
 unfolding answerOf readOf entriesOf readParagraphs readRows readLine judge formedBy upTo begins pieces numbersOf numberWithin unsigned digitsRead outsideOf report keys figures lines heats linesText printed line decimal digits digitsIn nearest nearestℕ tie root rootIn sum specificHeat sensible gasHeat mixedHeat theoreticalAir dryOfGas vapourOfGas ofGas dryFlue vapourRate vapour dryHeat vapourHeat flueHeat monoxideHeat numbered convection radiation flux wallHeat q1 q2 q3 q5 q8 x1 x2 x3 x5 x7 x8 x9 x10 total x11 waterHeat useful withset
 room = refl
 
-no-room : answerOf sheet 191 ≡ refusedAs 11 0
+no-room : answerOf sheet 191 ≡ refusedAs 11 0 0
 unfolding answerOf readOf entriesOf readParagraphs readRows readLine judge formedBy upTo begins pieces numbersOf numberWithin unsigned digitsRead outsideOf report keys figures lines heats linesText printed line decimal digits digitsIn nearest nearestℕ tie root rootIn sum specificHeat sensible gasHeat mixedHeat theoreticalAir dryOfGas vapourOfGas ofGas dryFlue vapourRate vapour dryHeat vapourHeat flueHeat monoxideHeat numbered convection radiation flux wallHeat q1 q2 q3 q5 q8 x1 x2 x3 x5 x7 x8 x9 x10 total x11 waterHeat useful withset
 no-room = refl

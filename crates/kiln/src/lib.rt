@@ -1,4 +1,4 @@
-// The balance of a sheet: its report in a lent slice, or a refusal with its line; for other crates, for C, and as text for a program.
+// The balance of a sheet: its report in a lent slice, or a refusal with its line and its field; for other crates, for C, and as text for a program.
 mod program;
 
 pub use program::print;
@@ -27,7 +27,7 @@ fn answered(sheet: &[u8], room: &mut [u8]) -> Answer
         // So written for the compiler: docs/DECISIONS.md, "The figures are lent to who writes them".
         return reported(&figures, room);
     }
-    refused(p.number, p.line)
+    refused(p.number, p.line, p.field)
 }
 
 // The balance of a sheet: the report at the front of the room and its length, or a refusal, and then no byte of the room changes.

@@ -20,5 +20,5 @@ pub fn print(room: &[u8], n: usize, out: &mut [u8; 1024]) -> usize
     if a.refusal == 0 {
         return a.length;
     }
-    refusal_text(out, a.refusal, a.line)
+    refusal_text(out, a)
 }

@@ -11,13 +11,13 @@ use Rattle.sheet.specs.declared.Reading.{Reading}
 use Rattle.sheet.specs.declared.Refusal.{Refusal}
 use Rattle.sheet.specs.declared.Refusal.the-variants.{TooLong, Surplus, Missing, GasTotal}
 use Rattle.sheet.specs.declared.Sheet.{Sheet as Sheetˢ}
-use Rattle.sheet.specs.Refusals.{number}
+use Rattle.sheet.specs.Refusals.{number, field}
 use Rattle.sheet.specs.Firing.{Firing}
 use Rattle.sheet.specs.Shown.{Shows}
 use Rattle.sheet.specs.Block.{totalGas}
 use Rattle.sheet.proofs.Refusals.{numbered}
 use Rattle.document.specs.Schema.{on, within}
-use Rattle.sheet.specs.Quantities.{gasTotal, sectionsMost, stagesMost, sheetMost}
+use Rattle.sheet.specs.Quantities.{gasTotal, sectionsMost, stagesMost, sheetMost, fieldsMost}
 use Rattle.document.specs.Reader.{Sheet, Read, stopped, got, readLines, Answer, Refused, Good, judgedWhole, readOf}
 use Rattle.document.specs.Tests.{all, counted, isRead, when, _else_}
 use Rattle.document.specs.Editions.{document}
@@ -202,27 +202,46 @@ firm-judged s r h e = here (readOf document s) refl h
 pub firm-lawful : {s : List ℕ} {x : Sheetˢ} (a : Firm s x) → Lawful (firingOf (a .sheet))
 firm-lawful {s} a = firing-lawful s (a .sheet) (a .good)
 
--- A REFUSED SHEET: a number and a line are those of the refusal that document 01 asks for
-pub record Denied (s : List ℕ) (n line : ℕ) : Type 0 where
+-- A REFUSED SHEET: a number, a line and a field are those of the refusal that document 01 asks for
+pub record Denied (s : List ℕ) (n line i : ℕ) : Type 0 where
   pub why : Refusal
   pub is : readOf document s ≡ Refused why line
   pub numbers : n ≡ number why
+  pub fields : i ≡ field why
 
-pub denied : (s : List ℕ) (r : Outcome) → Answers (readOf document s) r → ¬ (r .number ≡ 0) → Denied s (r .number) (r .line)
+pub denied : (s : List ℕ) (r : Outcome) → Answers (readOf document s) r → ¬ (r .number ≡ 0) → Denied s (r .number) (r .line) (r .field)
 denied s r h e = here (readOf document s) refl h
   where
-    here : (a : Answer) → readOf document s ≡ a → Answers a r → Denied s (r .number) (r .line)
-    here (Refused x n) g k = record { why = x; is = g ∙ ap (Refused x) (sym (ap (λ (o : Outcome). o .line) k)); numbers = ap (λ (o : Outcome). o .number) k }
+    here : (a : Answer) → readOf document s ≡ a → Answers a r → Denied s (r .number) (r .line) (r .field)
+    here (Refused x n) g k = record {
+      why = x;
+      is = g ∙ ap (Refused x) (sym (ap (λ (o : Outcome). o .line) k));
+      numbers = ap (λ (o : Outcome). o .number) k;
+      fields = ap (λ (o : Outcome). o .field) k;
+    }
     here (Good sheet) g k = absurd (e (k .0))
 
 -- the same by the judgement
-pub denied-judged : (s : List ℕ) (r : Lines) → Judged s (readOf document s) r → good (r .place) ≡ false → Denied s (r .place .number) (r .place .line)
+pub denied-judged : (s : List ℕ) (r : Lines) → Judged s (readOf document s) r → good (r .place) ≡ false
+    → Denied s (r .place .number) (r .place .line) (r .place .field)
 denied-judged s r h e = here (readOf document s) refl h
   where
-    here : (a : Answer) → readOf document s ≡ a → Judged s a r → Denied s (r .place .number) (r .place .line)
-    here (Refused x n) g k = record { why = x; is = g ∙ ap (Refused x) (sym (ap (λ (p : Place). p .line) k)); numbers = ap (λ (p : Place). p .number) k }
+    here : (a : Answer) → readOf document s ≡ a → Judged s a r → Denied s (r .place .number) (r .place .line) (r .place .field)
+    here (Refused x n) g k = record {
+      why = x;
+      is = g ∙ ap (Refused x) (sym (ap (λ (p : Place). p .line) k));
+      numbers = ap (λ (p : Place). p .number) k;
+      fields = ap (λ (p : Place). p .field) k;
+    }
     here (Good sheet) g k = not-both (good (r .place)) (behind-good s (r .place) (k .0)) e
 
--- both numbers are small
-pub denied-small : {s : List ℕ} {n line : ℕ} → Denied s n line → (n ≤ 11) × (line ≤ sheetMost + 1)
-denied-small {s} {n} {line} d = (omega (arith, d .numbers, numbered (d .why) .most), refuses s (d .why) line (d .is) .within)
+-- all three are small
+pub record Small (n m i : ℕ) : Type 0 where
+  pub number : n ≤ 13
+  pub line : m ≤ sheetMost + 1
+  pub field : i ≤ fieldsMost
+
+pub denied-small : {s : List ℕ} {n line i : ℕ} → Denied s n line i → Small n line i
+denied-small {s} {n} {line} d =
+    let r = refuses s (d .why) line (d .is) in
+    record { number = omega (arith, d .numbers, numbered (d .why) .most); line = r .within; field = omega (arith, d .fields, r .fields) }

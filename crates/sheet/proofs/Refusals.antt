@@ -1,4 +1,4 @@
--- Document 01 numbers its refusals from 1 to 11, so that 0 is free for a sheet that is accepted. Assumes nothing.
+-- The refusals are numbered from 1 to 13, so that 0 is free for a sheet that is accepted. Assumes nothing.
 use Prim.Native.Nat.{_≤_, _<_}
 use lib.Dec.{lit≤, lit<}
 use Rattle.sheet.specs.declared.Refusal.{Refusal}
@@ -7,7 +7,7 @@ use Rattle.sheet.specs.Refusals.{number}
 
 pub record Numbered (r : Refusal) : Type 0 where
   pub some : 0 < number r
-  pub most : number r ≤ 11
+  pub most : number r ≤ 13
 
 pub numbered : (r : Refusal) → Numbered r
 numbered TooLong = record { some = lit< tt; most = lit≤ tt }

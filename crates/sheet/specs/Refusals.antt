@@ -1,15 +1,15 @@
--- What the clerk hears: document 01's number of each refusal, and the field it names.
+-- What the clerk hears: the number of each refusal, by document 01 and T-01 of document 02, and the field it names.
 use Prim.Native.Nat.{ℕ}
 use Rattle.sheet.specs.declared.Refusal.{Refusal}
 use Rattle.sheet.specs.declared.Refusal.the-variants.{TooLong, NoLineFeed, WrongKey, WrongCount, NotANumber, Surplus, Outside, Material, Shares, SectionTwice, NoSuchWall, ReadTwice, Missing, Colder, GasTotal, NoRoom}
 
 abbrev pub number : Refusal → ℕ
 number TooLong = 1
-number NoLineFeed = 2
+number NoLineFeed = 13
 number WrongKey = 2
 number WrongCount = 2
-number (NotANumber i) = 2
-number Surplus = 2
+number (NotANumber i) = 12
+number Surplus = 13
 number (Outside i) = 3
 number (Material i) = 4
 number Shares = 5

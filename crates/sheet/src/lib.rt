@@ -164,17 +164,17 @@ pub struct Sheet {
     pub readings: [Reading; 144],
 }
 
-// Document 01's number of a refusal.
+// The number of a refusal.
 pub fn refusal_number(refusal: Refusal) -> usize
     ensures { λ r. ⌜ r ≡ number refusal ⌝ }
 {
     match refusal {
         Refusal::TooLong => 1,
-        Refusal::NoLineFeed => 2,
+        Refusal::NoLineFeed => 13,
         Refusal::WrongKey => 2,
         Refusal::WrongCount => 2,
-        Refusal::NotANumber(_) => 2,
-        Refusal::Surplus => 2,
+        Refusal::NotANumber(_) => 12,
+        Refusal::Surplus => 13,
         Refusal::Outside(_) => 3,
         Refusal::Material(_) => 4,
         Refusal::Shares => 5,

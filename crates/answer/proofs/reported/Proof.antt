@@ -33,7 +33,7 @@ returns c =
     (enough text (length (s .args .room .now)) most (w .ends ∙ zero-add (length text)), (at-front text (s .args .room .now) most (w .holds), n .ensures .1))
 
 refused-requires : tie.Need-refused-requires
-refused-requires c κs = (omega (arith, c .refusal-number .ensures), omega arith)
+refused-requires c κs = (omega (arith, c .refusal-number .ensures), omega arith, omega arith)
 
 returns-2 : tie.Need-returns-2
 returns-2 c =
@@ -42,7 +42,7 @@ returns-2 c =
     let s = start (left .before) in
     let text = linesText (keys shuttle) (s .args .figures .now) in
     let less = leb-false (length text) (length (s .args .room .now)) (sym (n .ensures .0) ∙ left .if1 .left) in
-    let why = c .refused .ensures ∙ ap (λ (k : ℕ). refusedAs k 0) (c .before .refusal-number .ensures) in
+    let why = c .refused .ensures ∙ ap (λ (k : ℕ). refusedAs k 0 0) (c .before .refusal-number .ensures) in
     (why ∙ too-little text (length (s .args .room .now)) less, (untouched text (s .args .room .now) less, n .ensures .1))
 
 pub reported-spec : {M : Type 1} → statement M

@@ -1,7 +1,7 @@
 -- An accepted sheet shows a firing that keeps the rules; a refused one has document 01's refusal. Assumes nothing.
 use borrow.Author.Needs.{needs}
 use Prim.Native.Nat.{ℕ}
-use mathlib.Core.Path.{_≡_, sym, ap, _∙_}
+use mathlib.Core.Path.{_≡_, sym, ap, ap₂, _∙_}
 use mathlib.Core.List.{List}
 use native.Mathlib.Omega.{arith}
 use lib.ListN.{length}
@@ -44,7 +44,7 @@ firing c = let j = J c .judged in firm-judged _ (j .result) (j .ensures) (is-goo
 -- what was refused
 abbrev refusal : (c : tie.Else1) →
     let j = c .before .before .before in
-    Denied (bytes j) (j .judged .result .place .number) (j .judged .result .place .line)
+    Denied (bytes j) (j .judged .result .place .number) (j .judged .result .place .line) (j .judged .result .place .field)
 refusal c =
     let j = c .before .before .before .judged in
     denied-judged _ (j .result) (j .ensures) (is-bad (j .result .place) (c .if1 .left))
@@ -90,7 +90,7 @@ returns c =
     (answer, (buffer, short-good s (a .good) (rw text at (w .1 .1))))
 
 refused-requires : tie.Need-refused-requires
-refused-requires c κs = let small = denied-small (refusal c) in (omega (arith, small .0), omega (arith, small .1))
+refused-requires c κs = let small = denied-small (refusal c) in (omega (arith, small .number), omega (arith, small .line), omega (arith, small .field))
 
 returns-2 : tie.Need-returns-2
 returns-2 c =
@@ -98,7 +98,7 @@ returns-2 c =
     let j = c .before .before .before .before in
     let s = bytes j in
     let room = j .before .before .before .args .room .now in
-    let why = ap (λ (n : ℕ). refusedAs n (j .judged .result .place .line)) (d .numbers) in
+    let why = ap₂ (λ (n i : ℕ). refusedAs n (j .judged .result .place .line) i) (d .numbers) (d .fields) in
     (c .refused .ensures ∙ why ∙ answer-bad s (d .is) (length room), (buffer-bad s (d .is) room, short-bad s (d .is)))
 
 pub answered-spec : {M : Type 1} → statement M

@@ -48,18 +48,18 @@ returns c =
     (subst (λ (x : List ℕ). Written 0 x (start o .args .out .now) (w .last .0) (w .result)) text (w .ensures .0), omega (arith, w .ensures .1, w .kept .0))
 
 -- what was refused
-abbrev refusal : (c : tie.Else1) → let o = c .before .before in Denied (sheet o) (o .read .result .number) (o .read .result .line)
+abbrev refusal : (c : tie.Else1) → let o = c .before .before in Denied (sheet o) (o .read .result .number) (o .read .result .line) (o .read .result .field)
 refusal c = let o = c .before .before in denied (sheet o) (o .read .result) (o .read .ensures) (c .if1 .left)
 
 refused-requires : tie.Need-refused-requires
-refused-requires c κs = let small = denied-small (refusal c) in (omega (arith, small .0), omega (arith, small .1))
+refused-requires c κs = let small = denied-small (refusal c) in (omega (arith, small .number), omega (arith, small .line), omega (arith, small .field))
 
 returns-2 : tie.Need-returns-2
 returns-2 c =
     let e = c .before .before .before in
     let o = e .before .before in
     let w = c .refusal-text in
-    let numbers = ap (λ (a : Answer). refusedText (a .refusal) (a .line)) (c .before .before .refused .ensures) in
+    let numbers = ap (λ (a : Answer). refusedText (a .refusal) (a .line) (a .field)) (c .before .before .refused .ensures) in
     let text = numbers ∙ refusal-told (sheet o) (o .read .result) (refusal e) in
     (subst (λ (x : List ℕ). Written 0 x (start o .args .out .now) (w .last .0) (w .result)) text (w .ensures .0), omega (arith, w .ensures .1, w .kept .0))
 

@@ -32,7 +32,7 @@ returns-2 c =
     let r = read .answered in
     let told = refusal-told _ _ _ (r .result) (r .ensures .1 .1) (size read) (r .ensures .0) (r .ensures .1 .0) (omega arith) in
     let w = c .refusal-text in
-    let refusal = refusedText (r .result .refusal) (r .result .line) in
+    let refusal = refusedText (r .result .refusal) (r .result .line) (r .result .field) in
     let over = subst (λ (old : List ℕ). Written 0 refusal old (w .last .0) (w .result)) (told .1) (w .ensures .0) in
     let text = subst (λ (t : List ℕ). Written 0 t (start read .args .out .now) (w .last .0) (w .result)) (told .0) over in
     (text, omega (arith, w .ensures .1, size read, w .kept .0, ap length (told .1)))
