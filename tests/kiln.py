@@ -1,5 +1,5 @@
 """Judges and works the firing sheet of a gas-fired shuttle kiln as document 01 says,
-with what document 02 has changed since (T-01).
+with what document 02 has changed since (T-01, T-02).
 
 It is written to be held against that document, so every figure stands here in
 the document's own units and every value is an exact fraction until the document
@@ -283,12 +283,15 @@ def vapour(gas, excess, moisture):
 A = {1: F('3.26'), 2: F('2.56'), 3: F('2.10')}
 
 
+def root(value):
+    """The square root, cut down to 1e-8."""
+    return isqrt(int(value * 10 ** 16)) * F('1e-8')
+
+
 def convection(place, surface, air):
-    """The first flux term, cut down to 1e-5 W/m2."""
+    """The first flux term, with the fourth root in it, rounded to 1e-5 W/m2."""
     delta = tenths(surface - air)
-    # The product is cut down once: its square is exact, and so is the root's floor.
-    square = A[place] ** 2 * delta ** 3
-    return isqrt(int(square * 10 ** 10)) * F('1e-5')
+    return rounded_to('1e-5', A[place] * delta * root(root(delta)))
 
 
 def radiation(surface, air):

@@ -10,7 +10,8 @@ import sys
 
 from kiln import LONGEST, REFUSALS
 
-# Document 01, "A whole firing": the sheet, and the report that it prints.
+# Document 01, "A whole firing": the sheet, and the report that it prints, with x9 and
+# x11 as T-02 of document 02 has changed them.
 EXAMPLE = b"""\
 sheet=1
 firing=7
@@ -49,9 +50,9 @@ x3=544000
 x5=600000
 x7=2593943
 x8=0
-x9=270098
+x9=152300
 x10=1201440
-x11=302920
+x11=420717
 useful=2049278
 withset=2649278
 eff1=2928
