@@ -1,5 +1,5 @@
 
-// Other ways to round, each of which compare/bites puts in the place of `nearest` wherever that is used.
+// Other ways to round, each of which compare/bites puts in the place of `nearest` wherever that is used, and a root for slips.txt.
 
 /// Halves to the even neighbour.
 pub fn even(n: i64, d: i64) -> i64 {
@@ -23,4 +23,9 @@ pub fn up(n: i64, d: i64) -> i64 {
 /// Everything towards zero.
 pub fn cut(n: i64, d: i64) -> i64 {
     n / d
+}
+
+/// The greatest whole number whose square is not above `n`, for roots of greater numbers than the documents take.
+pub fn wide_root(n: u128) -> u128 {
+    (0..60).rev().fold(0, |root, bit| if (root + (1 << bit)) * (root + (1 << bit)) <= n { root + (1 << bit) } else { root })
 }

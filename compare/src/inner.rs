@@ -9,7 +9,7 @@ use crate::halves::{edge, hundred};
 type Recipe = fn(&mut Draft, &mut Dice);
 
 /// Each with the heats of the report that show it: the sums `in` (5) and x11 (14), and its own where more than one record adds to it.
-const RECIPES: [(Recipe, &[usize]); 16] = [
+const RECIPES: [(Recipe, &[usize]); 17] = [
     (green_ware, &[5, 14]),
     (ware, &[14]),
     (waters, &[14]),
@@ -24,7 +24,8 @@ const RECIPES: [(Recipe, &[usize]); 16] = [
     (unburnt, &[14]),
     (radiation, &[14]),
     (reading, &[14]),
-    (whole_root, &[14]),
+    (whole_roots, &[14]),
+    (below_the_root, &[14]),
     (break_at_800, &[14, 13]),
 ];
 
@@ -214,12 +215,55 @@ fn reading(draft: &mut Draft, dice: &mut Dice) {
     wall(draft, surface, air, area, minutes);
 }
 
-/// The root is a whole number, and the next lower number's is not.
-fn whole_root(draft: &mut Draft, dice: &mut Dice) {
-    let side = dice.between(1, 17);
-    let air = dice.between(-200, 100);
-    let surface = air + 10 * side * side - dice.pick(&[0, 0, 1]);
-    wall(draft, surface.max(air), air, dice.between(2_000, 20_000), dice.between(200, 2_880));
+/// A reading of this place and drop, with so much surface and time that a unit of flux is 100 J or more.
+fn dropping(draft: &mut Draft, dice: &mut Dice, place: usize, drop: i64) {
+    let air = dice.between(-200, (3_000 - drop).min(500));
+    wall(draft, air + drop, air, dice.between(12_000, 20_000), dice.between(1_440, 2_880));
+    let number = draft.first(WALL)[0];
+    let section = draft.rows.iter_mut().find(|row| row.key == SECTION && row.values[0] == number);
+    section.expect("the reading's section").values[1] = place as i64;
+}
+
+/// The square root of the drop is a whole number or its fourth root is, and those of its neighbours are not.
+fn whole_roots(draft: &mut Draft, dice: &mut Dice) {
+    let any = dice.between(1, 17);
+    let side = dice.pick(&[any, 1, 4, 9, 16]);
+    let drop = 10 * side * side + dice.pick(&[0, 0, 1, -1]);
+    let place = dice.between(1, 3) as usize;
+    dropping(draft, dice, place, drop);
+}
+
+/// Formula 25's factor for roof, wall and floor, in hundredths.
+const FACTORS: [u128; 4] = [0, 326, 256, 210];
+
+/// The greatest whole number whose square is not above `n`.
+fn root(n: u128) -> u128 {
+    let mut root = (n as f64).sqrt() as u128;
+    while root * root > n {
+        root -= 1;
+    }
+    while (root + 1) * (root + 1) <= n {
+        root += 1;
+    }
+    root
+}
+
+/// T-02's term in 1e-5 W/m², from roots that are cut down, less the greatest whole number whose fourth power is not above the exact term's.
+fn beside_the_root(place: usize, drop: i64) -> i128 {
+    let (factor, drop) = (FACTORS[place], drop as u128);
+    let fourth = root(root(drop * 10_u128.pow(15)) * 10_u128.pow(8));
+    let term = (factor * drop * fourth + 500_000) / 1_000_000;
+    term as i128 - root(root(factor.pow(4) * drop.pow(5) * 10_u128.pow(7))) as i128
+}
+
+/// What the two roots have lost comes to a whole unit.
+fn below_the_root(draft: &mut Draft, dice: &mut Dice) {
+    let (mut place, mut drop) = (0, 0);
+    while beside_the_root(place, drop) >= 0 {
+        place = dice.between(1, 3) as usize;
+        drop = dice.between(0, 3_200);
+    }
+    dropping(draft, dice, place, drop);
 }
 
 /// The two materials with a break, at it and on both sides of it, in every place where a specific heat is taken.
@@ -231,4 +275,21 @@ fn break_at_800(draft: &mut Draft, dice: &mut Dice) {
     draft.first(SETTER)[1..].copy_from_slice(&[temperature, material, 0]);
     let (material, temperature) = at();
     draft.first(PART)[1..].copy_from_slice(&[material, 0, at().1, temperature]);
+}
+
+#[cfg(test)]
+mod tests {
+    use super::*;
+
+    /// Over all places and drops the term is that number, one unit more, or now and then one less.
+    #[test]
+    fn the_term_stands_beside_the_root() {
+        let mut met = [0; 3];
+        for place in 1..4 {
+            for drop in 0..=3_200 {
+                met[(beside_the_root(place, drop) + 1) as usize] += 1;
+            }
+        }
+        assert_eq!(met, [177, 6_802, 2_624]);
+    }
 }

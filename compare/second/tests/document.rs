@@ -5,9 +5,9 @@ use second::{answer, balance, Answer};
 
 const WORKED: &str = include_str!("../../../examples/worked.sheet");
 
-/// The worked firing's report as document 01 prints it.
+/// The worked firing's report as document 01 prints it, with x9 and x11 by T-02.
 const REPORT: &str = "firing=7\nq1=7000000\nq2=0\nq3=0\nq5=0\nq8=0\nin=7000000\nx1=1200000\nx2=287600\nx3=544000\nx5=600000\n\
-    x7=2593943\nx8=0\nx9=270098\nx10=1201440\nx11=302920\nuseful=2049278\nwithset=2649278\neff1=2928\neff2=3785\n";
+    x7=2593943\nx8=0\nx9=152300\nx10=1201440\nx11=420717\nuseful=2049278\nwithset=2649278\neff1=2928\neff2=3785\n";
 
 /// The refusal, line and field for the worked sheet with this part of it changed.
 fn changed(from: &str, to: &str) -> (u32, u32, u32) {
@@ -29,7 +29,7 @@ fn the_worked_firing() {
 #[test]
 fn the_marked_wall_and_the_marked_half() {
     let firing = balance(WORKED.as_bytes()).unwrap();
-    assert_eq!(firing.heats[12], 270_097_657);
+    assert_eq!(firing.heats[12], 152_300_246);
     assert_eq!(firing.heats[15], 2_049_277_500);
     assert_eq!(firing.efficiencies()[0], 2_928);
 }
