@@ -25,4 +25,6 @@ start-spec =
     (λ c. started _ 67108864 (omega arith) (omega arith))
     (λ c. search needs)
     (λ c. started _ 268435456 (omega arith) (omega arith))
+    (λ c. search needs)
+    (λ c. started _ 1073741824 (omega arith) (omega arith))
     (λ c. search needs))
