@@ -27,9 +27,9 @@ unfolding tie
 tie-high q = omega arith
 
 -- ---- sizes: the quotient is no further than a half
-record Half (n d N : ℕ) : Type 0 where
-  low : 2 * (d * N) ≤ 2 * n + d
-  high : 2 * n ≤ 2 * (d * N) + d
+pub record Half (n d N : ℕ) : Type 0 where
+  pub low : 2 * (d * N) ≤ 2 * n + d
+  pub high : 2 * n ≤ 2 * (d * N) + d
 
 settled-half : (n d q over short : ℕ) → d * q + over ≡ n → over + short ≡ d → Half n d (settled q over short)
 settled-half n d q over short e f = go (ltb over short) refl (ltb short over) refl
@@ -42,12 +42,12 @@ settled-half n d q over short e f = go (ltb over short) refl (ltb short over) re
       high = omega (arith, ltb-false over short p, ltb-false short over r, mul-le-mul-left d (tie-low q));
     }
 
-halfℕ : (n : ℕ) {d : ℕ} → 0 < d → Half n d (nearestℕ n d)
+pub halfℕ : (n : ℕ) {d : ℕ} → 0 < d → Half n d (nearestℕ n d)
 unfolding nearestℕ
 halfℕ n {d} h = settled-half n d (n / d) (n % d) (d - n % d) (div-add-mod n d) (omega (arith, mod-lt n h))
 
 -- a size that no other can reach: N(n) ≤ B where n is nearer to d·B than d·(B + 1)
-atmostℕ : (n : ℕ) {d : ℕ} (B : ℕ) → 0 < d → 2 * n < 2 * (d * B) + d → nearestℕ n d ≤ B
+pub atmostℕ : (n : ℕ) {d : ℕ} (B : ℕ) → 0 < d → 2 * n < 2 * (d * B) + d → nearestℕ n d ≤ B
 atmostℕ n {d} B h k = go (decLe (nearestℕ n d) B)
   where
     go : Dec (nearestℕ n d ≤ B) → nearestℕ n d ≤ B

@@ -2,7 +2,7 @@
 use mathlib.Core.Path.{_≡_}
 use mathlib.Core.Bool.{Bool, true, false, not, cond}
 use Prim.Native.Nat.{ℕ, zero, suc, _+_, _*_, _-_, _/_, _≤_, _<_}
-use native.Mathlib.Nat.{mul-le-mul, le-refl, le-antisymm, lt-div-mul-add}
+use native.Mathlib.Nat.{mul-le-mul, le-refl, le-trans, le-antisymm, lt-div-mul-add}
 use native.Mathlib.Decide.{decLe}
 use native.Mathlib.Omega.{arith}
 use lib.Dec.{T, leb, leb→le, nleb→lt}
@@ -28,12 +28,23 @@ pub root-is : (n : ℕ) → IsRoot n (root n)
 unfolding root
 root-is n = rootIn-is n n (le-refl n)
 
-pub root-mono : {m n r s : ℕ} → IsRoot m r → IsRoot n s → m ≤ n → r ≤ s
-root-mono {m} {n} {r} {s} a b h = go (decLe r s)
+-- a number whose square is not above n is not above the root; and the root is not above one whose next one's square is above n
+pub root-least : {n r : ℕ} (m : ℕ) → IsRoot n r → m * m ≤ n → m ≤ r
+root-least {n} {r} m a h = go (decLe m r)
   where
-    go : Dec (r ≤ s) → r ≤ s
+    go : Dec (m ≤ r) → m ≤ r
     go (yes p) = p
-    go (no f) = let g : suc s ≤ r = omega arith in let e : ⊥ = omega (arith, a .below, b .above, mul-le-mul g g) in absurd e
+    go (no f) = let g : suc r ≤ m = omega arith in let e : ⊥ = omega (arith, mul-le-mul g g, a .above) in absurd e
+
+pub root-most : {n r : ℕ} (m : ℕ) → IsRoot n r → n < suc m * suc m → r ≤ m
+root-most {n} {r} m a h = go (decLe r m)
+  where
+    go : Dec (r ≤ m) → r ≤ m
+    go (yes p) = p
+    go (no f) = let g : suc m ≤ r = omega arith in let e : ⊥ = omega (arith, mul-le-mul g g, a .below) in absurd e
+
+pub root-mono : {m n r s : ℕ} → IsRoot m r → IsRoot n s → m ≤ n → r ≤ s
+root-mono {r = r} a b h = root-least r b (le-trans (a .below) h)
 
 pub root-only : {n r s : ℕ} → IsRoot n r → IsRoot n s → r ≡ s
 root-only {n} a b = le-antisymm (root-mono a b (le-refl n)) (root-mono b a (le-refl n))
