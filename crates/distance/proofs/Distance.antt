@@ -4,40 +4,54 @@ use Prim.Native.Nat.{ℕ, zero, suc, _+_, _*_, _/_, _^_, _-_, _≤_, _<_}
 use mathlib.Core.Path.{_≡_, ap}
 use mathlib.Core.Bool.{Bool, true, false, cond, _&&_}
 use mathlib.Core.List.{List, [], _∷_, _++_, map}
-use native.Mathlib.Nat.{le-trans, mul-le-mul, mul-le-mul-left, mul-le-mul-right}
+use native.Mathlib.Nat.{le-trans, lt-of-le-of-lt, mul-le-mul, mul-le-mul-left, mul-le-mul-right}
 use native.Mathlib.Omega.{arith}
 use lib.Dec.{T, leb, leb→le, lit<, lit≤}
 use lib.IntN.{ℤ, pos, natAbs, _-ℤ_, _*ℤ_}
 use lib.ListN.{getD}
 use lib.Signed.{_≤ℤ_, ≤ℤ-refl, leZ-yes}
 use Rattle.arith.specs.Nearest.{nearest}
-use Rattle.arith.specs.Root.{root}
 use Rattle.arith.proofs.Ring.{both-left, both-right}
 use Rattle.arith.proofs.Order.{arithℤ, ≤ℤ-trans, nonneg-mul, abs-is, abs-mul}
 use Rattle.arith.proofs.Machine.{range, arg, _⟨-⟩_, bound}
-use Rattle.arith.proofs.RootLaws.{root-is}
-use Rattle.sheet.specs.Firing.{Stage, Section, Firing}
+use Rattle.text.specs.Bytes.{bytes}
+use Rattle.sheet.specs.Firing.{Stage, Section, Wall, Firing}
 use Rattle.sheet.specs.Shown.{same as alike}
 use Rattle.sheet.specs.Block.{sum, totalGas}
 use Rattle.sheet.specs.Quantities.{product, ambient, heating, flue, monoxide, gasTotal}
 use Rattle.document.specs.Rules.{Every}
 use Rattle.document.specs.Rows.{firingOf}
-use Rattle.document.specs.Lawful.{In, StageIn, SectionIn, Lawful}
+use Rattle.document.specs.Lawful.{In, StageIn, SectionIn, WallIn, Lawful}
 use Rattle.document.proofs.Editions.{firing-lawful}
-use Rattle.formulas.specs.Rounding.{Rounding, paper}
+use Rattle.formulas.specs.Rounding.{Rounding, convected, power, paper}
 use Rattle.formulas.specs.Formulas.{gasHeat, joule, sensible, q1, q2, q3, q5, q8, x1, x2, x3, x5, x10, dryFlue, vapourRate, vapour, dryHeat, vapourHeat, flueHeat, monoxideHeat, x7, x8, noStage, numbered, sectionOf, stageOf, convection, radiation, flux, wallHeat, x9, waterHeat, useful, withset}
+use Rattle.formulas.specs.Sizes.{placedMost, warmerMost}
 use Rattle.formulas.specs.Items.{Quantity, Item, item, Sides, shuttle, total, x11, heats}
 use Rattle.formulas.specs.Report.{Line, number, heat, share, itemLine, shares, lines, printed}
-use Rattle.distance.specs.Demand.{Stand, cutDown, oneMore, standIn, Enclosed, Choice, against, surface, thousand, allowed, leeway, Within, Near, Demand3}
-use Rattle.distance.proofs.Off.{Off, Size, same, one-more, _⊞_, _⊟_, _⊠_, times, per, per-both, rounded, settled, summed, records}
+use Rattle.formulas.proofs.Sizes.{placed-most}
+use Rattle.distance.specs.Demand.{Stand, greatest, oneMore, standIn, Enclosed, Choice, against, surface, thousand, allowed, leeway, Within, Near, Demand3}
+use Rattle.distance.proofs.FourthRoot.{units, four-less, twice-below, twice-above, not-above, above}
+use Rattle.distance.proofs.Off.{Off, Size, same, sizes, _⊞_, _⊟_, _⊠_, times, per, per-both, rounded, settled, summed, records}
 
--- ---- THE STAND-INS: their squares enclose the exact one, and each is at most one unit from the cut-down term
+-- ---- THE STAND-INS: their fourth powers enclose the exact one, and each is at most two units from the term, which is within one of the lesser
 enclosed : (n : ℕ) → Enclosed n
-enclosed n = let r = root-is n in record { low = r .below; high = omega (arith, r .above) }
+enclosed n = record {
+  low = twice-below n;
+  high = twice-above n;
+  none-greater = λ m h. let less = four-less m (standIn oneMore n) (lt-of-le-of-lt h (twice-above n)) in omega arith;
+}
 
-stand-off : {w : ℕ} (c : Stand) (n : ℕ) → Off w 1 0 (pos (root n)) (pos (standIn c n))
-stand-off {w} cutDown n = record { off = omega (arith, same {w = w} {x = pos (root n)} .off) }
-stand-off oneMore n = one-more
+stand-off : {w : ℕ} (c : Stand) (a Δ : ℕ) → a ≤ placedMost → Δ ≤ warmerMost → Off w units 0 (pos (convected a Δ)) (pos (standIn c (power a Δ)))
+stand-off {w} c a Δ h k =
+    let n = power a Δ in
+    let low = four-less (convected a Δ - 1) (standIn oneMore n) (lt-of-le-of-lt (not-above a Δ) (twice-above n)) in
+    let high = four-less (standIn greatest n) (convected a Δ + units) (lt-of-le-of-lt (twice-below n) (above a Δ h k)) in
+    either c (omega (arith, low)) (omega (arith, high))
+  where
+    either : (c : Stand) → convected a Δ ≤ standIn greatest (power a Δ) + 1 → standIn oneMore (power a Δ) ≤ convected a Δ + units
+        → Off w units 0 (pos (convected a Δ)) (pos (standIn c (power a Δ)))
+    either greatest low high = sizes (omega arith) (omega arith)
+    either oneMore low high = sizes (omega arith) (omega arith)
 
 -- ---- THE LIMITS, as the formulas meet them. The gas of all stages
 gas-in : {f : Firing} → Lawful f → In gasTotal (totalGas (f .stages))
@@ -161,6 +175,9 @@ module _ (f : Firing) (h : Lawful f) (choice : Choice) where
       rounded (lit< tt) (times (rounded (lit< tt) same) (monoxide-size s c) ⊠ pos 12750 ⊠ pos (joule / 10 ^ 11))))
 
   -- ---- Surface
+  rise-most : (w : Wall) → WallIn f w → natAbs (w .surface -ℤ w .air) ≤ warmerMost
+  rise-most w c = bound (range (c .surface .low) (c .surface .high) ∷ range (c .air .low) (c .air .high) ∷ []) (arg 0 ⟨-⟩ arg 1) tt
+
   x9-off : Bound x9
   unfolding x9 wallHeat flux convection radiation
   x9-off =
@@ -168,8 +185,9 @@ module _ (f : Firing) (h : Lawful f) (choice : Choice) where
       (summed (λ w. sectionOf f w .area *ℤ stageOf f w .minutes)
       (λ w c. nonneg-mul (area-least (w .section) (f .sections) (h .sections)) (minutes-least (natAbs (w .stage) - 1) (f .stages) (h .stages)))
       (f .walls) (h .walls) (h .wallsMost) (λ w c.
-      rounded (lit< tt) (per-both (sectionOf f w .area) (stageOf f w .minutes) (stand-off (choice w) _ ⊠ pos (10 ^ 9) ⊞ rounded (lit< tt) same) ⊠ pos 60 ⊠ pos
-      (joule / 10 ^ 16))))
+      rounded (lit< tt) (per-both (sectionOf f w .area) (stageOf f w .minutes)
+      (stand-off (choice w) _ _ (placed-most (natAbs (sectionOf f w .place))) (rise-most w c) ⊠ pos (10 ^ 9) ⊞ rounded (lit< tt) same)
+      ⊠ pos 60 ⊠ pos (joule / 10 ^ 16))))
 
   -- ---- Sides
   Bounded : List Item → Type 0
@@ -274,7 +292,7 @@ module _ (f : Firing) (h : Lawful f) (choice : Choice) where
   unfolding lines heats Bounded kept incomes-off expenses-off flats rates side-off x11-off useful-off withset-off q1-off q2-off q3-off q5-off q8-off x1-off x2-off x3-off x5-off x7-off x8-off x9-off x10-off
   near =
       let rest : Every (Near f choice) below =
-      per-tonne (x11-off shuttle incomes-off expenses-off) tt tt
+      per-tonne {key = bytes "x11"} (x11-off shuttle incomes-off expenses-off) tt tt
       & per-tonne useful-off tt tt
       & per-tonne withset-off tt tt
       & over-fuel useful-off tt tt

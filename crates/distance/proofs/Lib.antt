@@ -1,2 +1,3 @@
+pub mod FourthRoot
 pub mod Off
 pub mod Distance

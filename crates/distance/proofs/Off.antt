@@ -5,12 +5,12 @@ use mathlib.Core.Path.{_≡_, refl, ap, subst}
 use mathlib.Core.List.{List, [], _∷_}
 use native.Mathlib.Nat.{le-refl, mul-le-mul-left}
 use native.Mathlib.Omega.{arith}
-use lib.IntN.{ℤ, pos, negsuc, natAbs, _+ℤ_, _-ℤ_, _*ℤ_}
+use lib.IntN.{ℤ, pos, negsuc, negℤ, natAbs, _+ℤ_, _-ℤ_, _*ℤ_}
 use lib.ListN.{length}
 use lib.Signed.{_≤ℤ_, ≤ℤ-refl}
 use Rattle.arith.specs.Nearest.{nearest}
 use Rattle.arith.proofs.Ring.{v, #, _⊕_, _⊖_, _⊗_, ⊝, ring}
-use Rattle.arith.proofs.Order.{bound-add, bound-sub, bound-mul, +ℤ-mono}
+use Rattle.arith.proofs.Order.{arithℤ, parts, abs≤, bound-add, bound-sub, bound-mul, +ℤ-mono}
 use Rattle.arith.proofs.NearestLaws.{nearest-error}
 use Rattle.sheet.specs.Block.{sum}
 use Rattle.document.specs.Rules.{Every}
@@ -22,8 +22,12 @@ pub record Off (w flat rate : ℕ) (x y : ℤ) : Type 0 where
 pub same : {w : ℕ} {x : ℤ} → Off w 0 0 x x
 same {w} {x} = record { off = subst (λ (i : ℤ). natAbs i ≤ 0 + 0 * w) (ring (x ∷ []) (# 0) (v 0 ⊖ v 0) tt) (omega arith) }
 
-pub one-more : {w n : ℕ} → Off w 1 0 (pos n) (pos (n + 1))
-one-more {w} {n} = record { off = subst (λ (i : ℤ). natAbs i ≤ 1 + 0 * w) (ring (pos n ∷ []) (⊝ (# 1)) (v 0 ⊖ (v 0 ⊕ # 1)) tt) (omega arith) }
+-- two sizes, neither above the other by more than e
+pub sizes : {w m n e : ℕ} → m ≤ n + e → n ≤ m + e → Off w e 0 (pos m) (pos n)
+sizes {w} {m} {n} {e} h k =
+    let low : negℤ (pos e) ≤ℤ (pos m -ℤ pos n) = omega (arithℤ, parts (pos m ∷ pos n ∷ []) (v 0 ⊖ v 1), parts (pos e ∷ []) (⊝ (v 0))) in
+    let high : (pos m -ℤ pos n) ≤ℤ pos e = omega (arithℤ, parts (pos m ∷ pos n ∷ []) (v 0 ⊖ v 1)) in
+    record { off = omega (arith, abs≤ low high) }
 
 -- ---- sums, differences and products
 module _ {d e : ℕ} (x y z t : ℤ) (h : natAbs (x -ℤ y) ≤ d) (k : natAbs (z -ℤ t) ≤ e) where

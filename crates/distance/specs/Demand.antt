@@ -13,32 +13,34 @@ use Rattle.document.specs.Reader.{Sheet, Good, readOf, sameKey}
 use Rattle.document.specs.Editions.{document}
 use Rattle.document.specs.Rules.{Every}
 use Rattle.document.specs.Rows.{firingOf}
-use Rattle.formulas.specs.Rounding.{Rounding, square, exact}
+use Rattle.formulas.specs.Rounding.{Rounding, fourthPower, power, exact}
 use Rattle.formulas.specs.Formulas.{sectionOf, stageOf}
 use Rattle.formulas.specs.Items.{sidesOf}
 use Rattle.formulas.specs.Report.{Figure, number, heat, share, Line, lines, Fraction, fraction, printed}
 
--- ---- THE UNROUNDED VALUE is a fraction of whole numbers: the report's own, with nothing rounded. For A Δ√Δ two stand in, in 1e-5 W/m²:
--- the cut-down term, and one unit more
+-- ---- THE UNROUNDED VALUE is a fraction of whole numbers: the report's own, with nothing rounded. For the root two stand in: what document
+-- 01 says here of Δ√Δ, request T-02 says of Δ ⁴√Δ now. They are the greatest whole number of 1e-5 W/m² whose fourth power is not above that
+-- of the exact term, and one unit more
 pub data Stand : Type 0 where
-  cutDown oneMore : Stand
+  greatest oneMore : Stand
 
--- n is the exact square of the term
+-- n is the exact fourth power of the term
 abbrev pub standIn : Stand → ℕ → ℕ
-standIn cutDown n = root n
-standIn oneMore n = root n + 1
+standIn greatest n = root (root n)
+standIn oneMore n = root (root n) + 1
 
--- the squares of the two enclose it
+-- the fourth powers of the two enclose it, and no greater number's is not above it
 pub record Enclosed (n : ℕ) : Type 0 where
-  pub low : standIn cutDown n * standIn cutDown n ≤ n
-  pub high : n < standIn oneMore n * standIn oneMore n
+  pub low : fourthPower (standIn greatest n) ≤ n
+  pub high : n < fourthPower (standIn oneMore n)
+  pub none-greater : (m : ℕ) → fourthPower m ≤ n → m ≤ standIn greatest n
 
 -- one of the two for each reading
 abbrev pub Choice : Type 0
 Choice = Wall → Stand
 
 abbrev pub against : Choice → Rounding
-against choice = exact (λ w a Δ. standIn (choice w) (square a Δ))
+against choice = exact (λ w a Δ. standIn (choice w) (power a Δ))
 
 abbrev pub unrounded : Firing → Choice → Line → Fraction
 unrounded f choice l = fraction f (against choice) (l .figure)
@@ -57,9 +59,9 @@ allowed number = 0
 allowed (heat q) = 4
 allowed (share q) = 1
 
--- and 1 kJ per tonne more for each 1,000 square-metre-hours: to x9 and x11, and to no other line
+-- and by request T-02 2 kJ per tonne more for each 1,000 square-metre-hours: to x9 and x11, and to no other line
 abbrev pub leeway : List ℕ → ℕ
-leeway key = cond (sameKey key (bytes "x9") || sameKey key (bytes "x11")) 1 0
+leeway key = cond (sameKey key (bytes "x9") || sameKey key (bytes "x11")) 2 0
 
 -- ---- A LINE IS NEAR where |printed − unrounded| ≤ allowed + leeway · surface / thousand. Multiplied out, |x − over/under| ≤ a/b is
 abbrev pub Within : ℕ → ℕ → ℤ → Fraction → Type 0

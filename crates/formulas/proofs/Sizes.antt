@@ -5,7 +5,7 @@ use mathlib.Core.Bool.{Bool, _&&_}
 use mathlib.Core.List.{List, [], _∷_}
 use native.Mathlib.Nat.{le-refl, lt-of-le-of-lt, zero-lt-suc}
 use native.Mathlib.Omega.{arith}
-use lib.Dec.{T, leb, le→leb, ltb, ltb→lt}
+use lib.Dec.{T, leb, leb→le, le→leb, ltb, ltb→lt}
 use lib.IntN.{ℤ, natAbs}
 use lib.ListN.{getD}
 use mir.Syntax.{w64}
@@ -20,6 +20,8 @@ use Rattle.arith.proofs.Machine.{Known, small, range, Mx, raw, mean, span, boun
 use Rattle.document.specs.Lawful.{In}
 use Rattle.document.specs.Tests.{all}
 use Rattle.formulas.specs.Rounding.{paper}
+use Rattle.formulas.specs.Formulas.{placed}
+use Rattle.formulas.specs.Sizes.{placedMost}
 use Rattle.formulas.specs.Figures.{Is, Within, Figure}
 use Rattle.formulas.proofs.Units.{same, rounds}
 
@@ -69,3 +71,7 @@ pub entry : {A : Type 0} (p : A → Bool) (d : A) (l : List A) → T (p d) → T
 entry p d [] h t i = h
 entry p d (a ∷ l) h t zero = both-left (p a) (all p l) t
 entry p d (a ∷ l) h t (suc i) = entry p d l h (both-right (p a) (all p l) t) i
+
+-- A of formula 25, at any place and at none
+pub placed-most : (p : ℕ) → placed p ≤ placedMost
+placed-most p = leb→le _ _ (entry (λ a. leb a placedMost) 0 (0 ∷ 326 ∷ 256 ∷ 210 ∷ []) tt tt p)

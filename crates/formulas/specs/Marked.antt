@@ -1,4 +1,5 @@
--- Document 01's marked cases and the joules of its worked firing: one table of facts about the definitions, with one proof, by computation.
+-- Document 01's marked cases and the joules of its worked firing, with the root of request T-02: one table of facts about the definitions, with
+-- one proof, by computation.
 use Prim.Native.Nat.{ℕ, _*_, _/_, _^_}
 use mathlib.Core.Bool.{Bool, true, _&&_}
 use mathlib.Core.List.{List, [], _∷_}
@@ -87,10 +88,10 @@ cases =
     ∷ case (theoreticalAir methane) 9520000 1  -- 9.52
     ∷ case (dryFlue paper (ofGas methane) stage) 94728 (2000 * 10 ^ 5)  -- 9.4728 per m³
     ∷ case (vapourRate paper (ofGas methane) (pos 0) stage) 1607142857 (56 * 10 ^ 7)  -- in dry air 1.607142857
-    ∷ case (convection paper section wall) 55296000 (10 ^ 9)  -- 552.96000
+    ∷ case (convection paper section wall) 22574497 (10 ^ 9)  -- 225.74497, T-02's
     ∷ case (radiation paper wall) 19731127 (10 ^ 9)  -- 197.31127
     ∷ case (flux paper section still) 0 1
-    ∷ case (wallHeat paper section stage wall) 270097657 joule  -- that wall's heat
+    ∷ case (wallHeat paper section stage wall) 152300246 joule  -- that wall's heat, T-02's
     ∷ case (q1 worked paper) 7000000000 joule
     ∷ case (q2 worked paper) 0 joule
     ∷ case (q3 worked paper) 0 joule
@@ -103,9 +104,9 @@ cases =
     ∷ case (x5 worked paper) 600000000 joule
     ∷ case (x7 worked paper) 2593942546 joule
     ∷ case (x8 worked paper) 0 joule
-    ∷ case (x9 worked paper) 270097657 joule
+    ∷ case (x9 worked paper) 152300246 joule
     ∷ case (x10 worked paper) 1201440000 joule
-    ∷ case (x11 shuttle worked paper) 302919797 joule
+    ∷ case (x11 shuttle worked paper) 420717208 joule
     ∷ case (useful worked paper) 2049277500 joule
     ∷ case (withset worked paper) 2649277500 joule
     -- printed per tonne, 2,049,277.5 is 2,049,278; and over q1, in 0.01 %

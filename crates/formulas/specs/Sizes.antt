@@ -4,7 +4,6 @@ use Prim.Native.Nat.{ℕ, _+_, _*_, _/_, _^_, _-_, max}
 use mathlib.Core.List.{List, [], _∷_}
 use lib.IntN.{ℤ, pos, natAbs, _+ℤ_, _-ℤ_, _*ℤ_}
 use Rattle.sheet.specs.Quantities.{ambient, heating, fuelTemperature, share, moisture, mass, temperature, capacity, flue, cubicMetres, excess, monoxide, minutes, area, surface, nearAir, gasTotal, stagesMost, settersMost, partsMost, sectionsMost, Field}
-use Rattle.formulas.specs.Rounding.{square}
 use Rattle.formulas.specs.Tables.{tableA1}
 use Rattle.formulas.specs.Formulas.{placed, fourth}
 
@@ -23,12 +22,12 @@ column f (a ∷ l) = max (natAbs (f a)) (column f l)
 abbrev pub upTo : ℕ → ℕ → ℕ
 upTo n d = (n + (d - 1)) / d
 
--- the root of n, cut down: not above the mean of any x and n / x, which three times over comes near it
+-- the root of n, cut down: not above the mean of any x and n / x, which five times over from 10⁹ is it for both roots of Δ
 abbrev pub mean : ℕ → ℕ → ℕ
 mean n x = (x + n / x) / 2
 
 abbrev pub rootUpTo : ℕ → ℕ
-rootUpTo n = mean n (mean n (mean n (2 * 10 ^ 9)))
+rootUpTo n = mean n (mean n (mean n (mean n (mean n (10 ^ 9)))))
 
 -- ---- How many readings have room, by section and stage
 abbrev pub cellsMost : ℕ
@@ -125,15 +124,21 @@ x7Most = stagesMost * flueHeatMost
 abbrev pub x8Most : ℕ
 x8Most = stagesMost * monoxideHeatMost
 
--- ---- Surface: A, of the roof; Δ; both terms of the flux; a reading's heat, and that of all cells
+-- ---- Surface: A, of the roof; Δ, its square root and the square root of that; both terms of the flux; a reading's heat, and that of all cells
 abbrev pub placedMost : ℕ
 placedMost = placed 1
 
 abbrev pub warmerMost : ℕ
 warmerMost = apart surface nearAir
 
+abbrev pub squareRootMost : ℕ
+squareRootMost = rootUpTo (warmerMost * 10 ^ 15)
+
+abbrev pub fourthRootMost : ℕ
+fourthRootMost = rootUpTo (squareRootMost * 10 ^ 8)
+
 abbrev pub convectionMost : ℕ
-convectionMost = rootUpTo (square placedMost warmerMost)
+convectionMost = upTo (placedMost * warmerMost * fourthRootMost) (10 ^ 6)
 
 abbrev pub radiationMost : ℕ
 radiationMost = upTo (454 * natAbs (fourth (surface .greatest) -ℤ fourth (nearAir .least))) (10 ^ 9)

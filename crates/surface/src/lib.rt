@@ -1,13 +1,12 @@
 // The heat that leaves through the surface, reading by reading.
 ghost use mathlib.Core.Path.{_≡_};
-ghost use Prim.Native.Nat.{_^_, _≤_};
+ghost use Prim.Native.Nat.{_*_, _^_, _≤_};
 ghost use lib.IntN.{ℤ, pos, natAbs, _+ℤ_, _-ℤ_, _*ℤ_};
 ghost use mir.Syntax.{w64};
 ghost use mir.Val.{SFits};
-ghost use Rattle.arith.specs.Root.{root};
 ghost use Rattle.sheet.specs.Firing.{Wall, Firing};
 ghost use Rattle.sheet.specs.Shown.{stage as stageOf, section as sectionOf};
-ghost use Rattle.formulas.specs.Rounding.{paper, square};
+ghost use Rattle.formulas.specs.Rounding.{paper, fourthRoot, convected};
 ghost use Rattle.formulas.specs.Formulas.{joule, placed, fourth, radiation, flux, wallHeat, x9};
 ghost use Rattle.formulas.specs.Figures.{Exact, Figure};
 ghost use Rattle.formulas.specs.Sizes.{placedMost, warmerMost, convectionMost, radiationMost, fluxMost, wallHeatMost, x9Most};
@@ -38,22 +37,30 @@ pub struct Fourth(pub i64);
 // A of formula 25 in 0.01, by place.
 const FACTOR: [u64; 4] = [0, 326, 256, 210];
 
-// A Δ√Δ, cut down.
-fn cut_down(a: u64, rise: u64) -> u64
-    requires { ⌜ (a ≤ placedMost) × (rise ≤ warmerMost) ⌝ }
-    ensures { λ r. ⌜ r ≡ root (square a rise) ⌝ }
+// The fourth root of a rise in 1e-8: the square root cut down, and the square root of that cut down.
+fn fourth_root(rise: u64) -> u64
+    requires { ⌜ rise ≤ warmerMost ⌝ }
+    ensures { λ r. ⌜ r ≡ fourthRoot rise ⌝ }
 {
-    arith::floor_root(1000 * (a * a) * (rise * rise * rise))
+    arith::floor_root(arith::floor_root(rise * 1_000_000_000_000_000) * 100_000_000)
+}
+
+// The first term of formula 25, A Δ ⁴√Δ, before it is rounded.
+fn first_term(a: u64, rise: u64) -> Quotient
+    requires { ⌜ (a ≤ placedMost) × (rise ≤ warmerMost) ⌝ }
+    ensures { λ r. ⌜ r ≡ over (pos (a * rise * fourthRoot rise)) (10 ^ 6) ⌝ }
+{
+    Quotient((a * rise * fourth_root(rise)) as i64, 1_000_000)
 }
 
 // The first term of formula 25.
 fn convection(place: SectionPlace, rise: Rise) -> Flux
     requires { ⌜ RiseIn (place .0) (rise .0) ⌝ }
-    ensures { λ r. ⌜ Exact convectionMost (r .0) (pos (root (square (placed (place .0)) (natAbs (rise .0))))) ⌝ }
+    ensures { λ r. ⌜ Exact convectionMost (r .0) (pos (convected (placed (place .0)) (natAbs (rise .0)))) ⌝ }
 {
     let at = place.0;
     let size = rise.0 as u64;
-    Flux(cut_down(FACTOR[at], size) as i64)
+    Flux(first_term(FACTOR[at], size).units().0)
 }
 
 // The fourth power of a temperature above the absolute zero.
