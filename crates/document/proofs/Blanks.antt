@@ -1,13 +1,13 @@
 -- What stands where nothing was read fits the line that it would have: so every quantity of a sheet's struct lies within its limits, read or
 -- not. Assumes nothing.
 use mathlib.Core.Path.{_≡_, refl}
-use mathlib.Core.Bool.{Bool, true, _&&_}
-use mathlib.Core.List.{List, [], _∷_}
+use mathlib.Core.Bool.{true, _&&_}
+use mathlib.Core.List.{[], _∷_}
 use lib.IntN.{ℤ, pos}
 use Rattle.sheet.specs.Blank.{blankHead, blankStage, blankSetter, blankPart, blankSection, blankSheet}
 use Rattle.sheet.specs.Shown.{fuel, gas, ware, water, stage, setter, part, section, unread}
-use Rattle.sheet.specs.Quantities.{Field, stagesLeast, stagesMost, settersMost, partsMost, sectionsLeast, sectionsMost, surface, nearAir, to}
-use Rattle.document.specs.Schema.{Line, Row, plain, within, inRanges, fits}
+use Rattle.sheet.specs.Quantities.{stagesLeast, stagesMost, settersMost, partsMost, sectionsLeast, sectionsMost, surface, nearAir, to}
+use Rattle.document.specs.Schema.{Row, plain, within, inRanges, fits}
 use Rattle.document.specs.Rows.{fuelRow, gasRow, wareRow, waterRow, stageRow, setterRow, partRow, sectionRow}
 use Rattle.document.specs.Document01.{sheetLine, firingLine, productLine, ambientLine, fuelLine, gasLine, airLine, wareLine, waterLine, clayLine, stageLine, setterLine, partLine, sectionLine}
 

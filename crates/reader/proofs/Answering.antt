@@ -7,7 +7,7 @@ use native.Mathlib.Omega.{arith}
 use lib.Dec.{ltb, lit≤}
 use lib.ListN.{length, length-drop}
 use borrow.Author.Tests.{lt-ltb, le-ltb, ltb-true, ltb-false, eqb-true}
-use Rattle.sheet.specs.declared.Reading.{Reading}
+use Rattle.sheet.specs.declared.SectionReadings.{SectionReadings}
 use Rattle.sheet.specs.declared.Refusal.{Refusal}
 use Rattle.sheet.specs.declared.Refusal.the-variants.{TooLong, Surplus, Missing, GasTotal}
 use Rattle.sheet.specs.declared.Sheet.{Sheet as Sheetˢ}
@@ -47,7 +47,7 @@ read-same {x} {sheet} h z =
     let few : length (sectionsIn sheet) ≤ sectionsMost = omega (arith, h .sectionsAre, z .sections) in
     let short : length (stagesIn sheet) ≤ stagesMost = omega (arith, h .stagesAre, z .stages) in
     sym (all-read-is (sectionsIn sheet) (wallsIn sheet) (length (stagesIn sheet)) few short (h .distinct) (h .placed))
-    ∙ ap (λ (c : List Reading). allRead c (length (sectionsIn sheet)) (length (stagesIn sheet))) (sym (h .shows .readings))
+    ∙ ap (λ (c : List SectionReadings). allRead c (length (sectionsIn sheet)) (length (stagesIn sheet))) (sym (h .shows .readings))
     ∙ ap₂ (allRead (x .readings)) (h .sectionsAre) (h .stagesAre)
 
 module _ {x : Sheetˢ} {sheet : Sheet} (h : Held x sheet) (z : Sized x) (s : List ℕ) (q : Place) (is : q ≡ bottom s) where

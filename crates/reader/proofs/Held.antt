@@ -4,12 +4,12 @@ use mathlib.Core.Path.{_≡_, refl, sym, ap, _∙_, subst}
 use mathlib.Core.List.{List, [], _∷_, _++_, map}
 use mathlib.Core.Option.{none}
 use lib.IntN.{ℤ, pos}
-use lib.ListN.{length, replicate, length-map}
+use lib.ListN.{length, length-map}
 use Rattle.text.specs.Bytes.{bytes}
 use Rattle.quantity.specs.declared.gas.Share.{Share}
 use Rattle.sheet.specs.declared.Sheet.{Sheet as Sheetˢ}
 use Rattle.sheet.specs.Firing.{Section}
-use Rattle.sheet.specs.Shown.{gas, stage, setter, part, section, laid, unread}
+use Rattle.sheet.specs.Shown.{gas, stage, setter, part, section, laid, unreadSections}
 use Rattle.document.specs.Schema.{Row, plain, at}
 use Rattle.document.specs.Reader.{Sheet, rowsOf, one, filled, readLine, readParagraph, readParagraphs, readLines}
 use Rattle.document.specs.Rules.{Every}
@@ -125,7 +125,7 @@ module _ (e : EditionLine) (h : Heading) (f : Fuelling) (d : Drying) (a : Stagin
             sections = sym (shown .shown) i;
             walls = W;
           };
-          readings = walls .1 .lie ∙ ap (λ (x : List Section). laid x (replicate 144 unread) W) (shown .shown);
+          readings = walls .1 .lie ∙ ap (λ (x : List Section). laid x unreadSections W) (shown .shown);
         };
         trimmed = record {
           gas = long;

@@ -8,7 +8,7 @@ use Rattle.sheet.specs.declared.Part.{Part}
 use Rattle.sheet.specs.declared.Section.{Section}
 use Rattle.sheet.specs.declared.Head.{Head}
 use Rattle.sheet.specs.declared.Sheet.{Sheet}
-use Rattle.sheet.specs.Shown.{unread}
+use Rattle.sheet.specs.Shown.{unreadSections}
 use Rattle.sheet.specs.Quantities.{gases, stagesMost, settersMost, partsMost, sectionsMost, edition, firing, product, heating, excess, minutes, sectionNumber, place, area, stagesLeast, sectionsLeast}
 
 abbrev pub blankStuff : Stuff
@@ -53,5 +53,5 @@ blankSheet = record {
   setters = record { count = record { 0 = 0 }; lines = replicate settersMost blankSetter };
   parts = record { count = record { 0 = 0 }; lines = replicate partsMost blankPart };
   sections = record { count = record { 0 = sectionsLeast }; lines = replicate sectionsMost blankSection };
-  readings = replicate 144 unread;
+  readings = unreadSections;
 }

@@ -1,5 +1,5 @@
 -- What the code's structs show: the firing whose lines their arrays begin with, and whose readings stand by section and stage.
-use Prim.Native.Nat.{ℕ, suc, _+_, _*_, _-_}
+use Prim.Native.Nat.{ℕ, suc, _-_}
 use mathlib.Core.Path.{_≡_}
 use mathlib.Core.Bool.{Bool, true, false, cond, _&&_}
 use mathlib.Core.List.{List, [], _∷_, map}
@@ -17,9 +17,11 @@ use Rattle.sheet.specs.declared.Setter.{Setter as Setterˢ}
 use Rattle.sheet.specs.declared.Part.{Part as Partˢ}
 use Rattle.sheet.specs.declared.Section.{Section as Sectionˢ}
 use Rattle.sheet.specs.declared.Reading.{Reading as Readingˢ}
+use Rattle.sheet.specs.declared.SectionReadings.{SectionReadings as SectionReadingsˢ}
 use Rattle.sheet.specs.declared.Head.{Head as Headˢ}
 use Rattle.sheet.specs.declared.Sheet.{Sheet as Sheetˢ}
 use Rattle.sheet.specs.Firing.{Stuff, Fuel, Gas, Ware, Water, Stage, Setter, Part, Section, Wall, Firing}
+use Rattle.sheet.specs.Quantities.{stagesMost, sectionsMost}
 
 -- ---- a struct's record
 abbrev pub stuff : Stuffˢ → Stuff
@@ -96,8 +98,9 @@ unfoldable pub before : ℤ → List Section → ℕ
 before n [] = 0
 before n (x ∷ l) = cond (same n (x .number)) 0 (suc (before n l))
 
-abbrev pub cell : List Section → Wall → ℕ
-cell l w = before (w .section) l * 12 + (natAbs (w .stage) - 1)
+-- the stage's place: its number counts from 1
+abbrev pub column : Wall → ℕ
+column w = natAbs (w .stage) - 1
 
 abbrev pub reading : Wall → Readingˢ
 reading w = record { read = 1; surface = record { 0 = w .surface }; air = record { 0 = w .air } }
@@ -108,12 +111,30 @@ unread = record { read = 0; surface = record { 0 = pos 0 }; air = record { 0 = p
 abbrev pub wasRead : Readingˢ → Bool
 wasRead x = eqb (x .read) 1
 
--- the walls laid into their cells, one after the other
-unfoldable pub laid : List Section → List Readingˢ → List Wall → List Readingˢ
+abbrev pub unreadSection : SectionReadingsˢ
+unreadSection = record { stages = replicate stagesMost unread }
+
+abbrev pub unreadSections : List SectionReadingsˢ
+unreadSections = replicate sectionsMost unreadSection
+
+-- beyond the last section nothing stands
+abbrev pub noReadings : SectionReadingsˢ
+noReadings = record { stages = [] }
+
+-- the cell of the i-th section in the j-th stage, both from 0
+abbrev pub cell : List SectionReadingsˢ → ℕ → ℕ → Readingˢ
+cell cells i j = getD (getD cells i noReadings .stages) j unread
+
+-- a reading laid into it
+abbrev pub lay : List SectionReadingsˢ → ℕ → ℕ → Readingˢ → List SectionReadingsˢ
+lay cells i j x = set cells i (record { stages = set (getD cells i noReadings .stages) j x })
+
+-- the walls laid into the cells of their sections and stages, one after the other
+unfoldable pub laid : List Section → List SectionReadingsˢ → List Wall → List SectionReadingsˢ
 laid l cells [] = cells
-laid l cells (w ∷ ws) = laid l (set cells (cell l w) (reading w)) ws
+laid l cells (w ∷ ws) = laid l (lay cells (before (w .section) l) (column w) (reading w)) ws
 
 -- WHAT THE STRUCT OF A FIRING HOLDS
 pub record Shows (x : Sheetˢ) (f : Firing) : Type 0 where
   pub lines : f ≡ firing x (f .walls)
-  pub readings : x .readings ≡ laid (f .sections) (replicate 144 unread) (f .walls)
+  pub readings : x .readings ≡ laid (f .sections) unreadSections (f .walls)

@@ -1,7 +1,7 @@
 // What stands in a struct where nothing was read: 0 in every field, or the least of its quantity where that is above 0. So a quantity is
 // never outside its limits.
 ghost use mathlib.Core.Path.{_≡_};
-ghost use Rattle.sheet.specs.Shown.{unread};
+ghost use Rattle.sheet.specs.Shown.{unread, unreadSection};
 ghost use Rattle.sheet.specs.Blank.{blankStage, blankSetter, blankPart, blankSection, blankHead, blankSheet};
 use crate::Fuel;
 use crate::GASES;
@@ -10,6 +10,7 @@ use crate::Part;
 use crate::Parts;
 use crate::Reading;
 use crate::Section;
+use crate::SectionReadings;
 use crate::Sections;
 use crate::Setter;
 use crate::Setters;
@@ -110,6 +111,15 @@ pub fn reading() -> Reading
     }
 }
 
+// A section without a reading in any stage.
+pub fn section_readings() -> SectionReadings
+    ensures { λ r. ⌜ r ≡ unreadSection ⌝ }
+{
+    SectionReadings {
+        stages: [reading(); StageCount::GREATEST],
+    }
+}
+
 // The lines above the stages, none of them read.
 fn head() -> Head
     ensures { λ r. ⌜ r ≡ blankHead ⌝ }
@@ -165,6 +175,6 @@ pub fn sheet() -> Sheet
             count: SectionCount(SectionCount::LEAST),
             lines: [section(); SectionCount::GREATEST],
         },
-        readings: [reading(); 144],
+        readings: [section_readings(); SectionCount::GREATEST],
     }
 }

@@ -119,6 +119,11 @@ pub struct Reading {
     pub air: NearAir,
 }
 
+// What was measured at a section, stage by stage.
+pub struct SectionReadings {
+    pub stages: [Reading; StageCount::GREATEST],
+}
+
 // The lines above the stages.
 pub struct Head {
     pub edition: Edition,
@@ -154,14 +159,14 @@ pub struct Sections {
     pub lines: [Section; SectionCount::GREATEST],
 }
 
-// The readings stand by section and stage: that of the i-th section in the j-th stage at 12 i + j, both from 0.
+// The readings stand by section and stage: that of the i-th section in the j-th stage at readings[i].stages[j], both from 0.
 pub struct Sheet {
     pub head: Head,
     pub stages: Stages,
     pub setters: Setters,
     pub parts: Parts,
     pub sections: Sections,
-    pub readings: [Reading; 144],
+    pub readings: [SectionReadings; SectionCount::GREATEST],
 }
 
 // The number of a refusal.

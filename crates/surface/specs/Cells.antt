@@ -3,19 +3,20 @@ use Prim.Native.Nat.{ℕ, _≤_}
 use mathlib.Core.Path.{_≡_}
 use mathlib.Core.List.{List, map}
 use lib.IntN.{ℤ, pos, _+ℤ_, _-ℤ_, _*ℤ_}
-use lib.ListN.{take, replicate}
+use lib.ListN.{take}
 use lib.Signed.{_≤ℤ_}
 use mir.Syntax.{w64}
 use mir.Val.{SFits}
 use Rattle.sheet.specs.declared.Reading.{Reading}
+use Rattle.sheet.specs.declared.SectionReadings.{SectionReadings}
 use Rattle.sheet.specs.declared.Sections.{Sections}
 use Rattle.sheet.specs.declared.Stages.{Stages}
 use Rattle.sheet.specs.Firing.{Stage, Section, Firing}
-use Rattle.sheet.specs.Shown.{section, laid, unread}
+use Rattle.sheet.specs.Shown.{section, laid, unreadSections}
 use Rattle.sheet.specs.Block.{stagesOf}
 use Rattle.sheet.specs.Quantities.{surface, nearAir, minutes}
 use Rattle.document.specs.Lawful.{In, StageIn, SectionIn, Lawful}
-use Rattle.formulas.specs.Sizes.{warmerMost, cellsMost}
+use Rattle.formulas.specs.Sizes.{warmerMost}
 
 -- ---- steps
 pub record RiseIn (p : ℕ) (Δ : ℤ) : Type 0 where
@@ -58,8 +59,8 @@ pub record LostIn (x : Reading) (s : Section) (t : Stage) : Type 0 where
 
 -- ---- cells
 -- the firing that sections, stages and readings show; it keeps every rule, so each of its sections was read in each of its stages
-pub record Seen (readings : List Reading) (x : Sections) (y : Stages) (f : Firing) : Type 0 where
+pub record Seen (readings : List SectionReadings) (x : Sections) (y : Stages) (f : Firing) : Type 0 where
   pub sections : f .sections ≡ map section (take (x .count .0) (x .lines))
   pub stages : f .stages ≡ stagesOf y
-  pub laid : readings ≡ laid (f .sections) (replicate cellsMost unread) (f .walls)
+  pub laid : readings ≡ laid (f .sections) unreadSections (f .walls)
   pub rules : Lawful f

@@ -23,6 +23,7 @@ use quantity::temperature::Degrees;
 use quantity::temperature::Rise;
 use sheet::Reading;
 use sheet::Section;
+use sheet::SectionReadings;
 use sheet::Sections;
 use sheet::Stage;
 use sheet::Stages;
@@ -125,7 +126,11 @@ fn wall_heat(reading: Reading, section: Section, stage: Stage) -> Joules
 }
 
 // The heat that leaves through the surface: each section that there is, in each stage that there is.
-pub fn x9(readings: [Reading; 144], sections: Sections, stages: Stages) -> Joules
+pub fn x9(
+    readings: [SectionReadings; SectionCount::GREATEST],
+    sections: Sections,
+    stages: Stages,
+) -> Joules
     requires { ⌜ ((f : Firing) × Seen readings sections stages f) ⌝ }
     ensures { λ r. ⌜ ((f : Firing) → Seen readings sections stages f → Figure joule x9Most (r .0) (x9 f paper)) ⌝ }
 {
@@ -135,8 +140,10 @@ pub fn x9(readings: [Reading; 144], sections: Sections, stages: Stages) -> Joule
     let columns = held(stages.count.0, StageCount::GREATEST);
     let mut sum = Joules(0);
     for i in 0..rows {
+        let row = readings[i];
         for j in 0..columns {
-            sum = sum.plus(wall_heat(readings[i * 12 + j], places[i], times[j]));
+            let reading = row.stages[j];
+            sum = sum.plus(wall_heat(reading, places[i], times[j]));
         }
     }
     sum

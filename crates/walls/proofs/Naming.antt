@@ -10,12 +10,12 @@ use lib.ListN.{length}
 use Rattle.sheet.specs.declared.Refusal.{Refusal}
 use Rattle.sheet.specs.declared.Refusal.the-variants.{NoSuchWall}
 use Rattle.sheet.specs.Firing.{Section, Wall}
-use Rattle.sheet.specs.Shown.{before, cell}
+use Rattle.sheet.specs.Shown.{before}
 use Rattle.document.specs.Schema.{Row}
 use Rattle.document.specs.Tests.{when}
 use Rattle.document.specs.Document01.{wallLine}
 use Rattle.document.specs.Lawful.{In}
-use Rattle.sheet.specs.Quantities.{stageNumber}
+use Rattle.sheet.specs.Quantities.{stageNumber, stagesMost}
 use Rattle.document.specs.Reader.{readLine}
 use Rattle.document.specs.Rows.{wallOf}
 use Rattle.document.proofs.Cases.{clash}
@@ -46,14 +46,15 @@ module _ {s : List ℕ} {p : Place} (l : WallLine) (a : WallAfter s p l) (S : Li
       (λ row h. let u = said e row (h .0) in let v = h .1 in clash cc)
       (ruled-after s p (l .place) wallLine Shown (λ row. none) by-six true NoSuchWall (said e) (a .after))
 
-  -- where both are there its cell is theirs
-  pub there : (at : ℕ) → six S k (wall (l .wall)) ≡ when false NoSuchWall → before (pos (l .wall .section .0)) S < length S → at ≡ cell S (wall (l .wall))
-      → let r : NamedWall = record { place = l .place; wall = l .wall; cell = at } in After s p (readLine wallLine by-six) (r .place) (Named S r)
+  -- where both are there its place is the section's
+  pub there : (at : ℕ) → six S k (wall (l .wall)) ≡ when false NoSuchWall → before (pos (l .wall .section .0)) S < length S
+      → at ≡ before (pos (l .wall .section .0)) S
+      → let r : NamedWall = record { place = l .place; wall = l .wall; row = at } in After s p (readLine wallLine by-six) (r .place) (Named S r)
   there at e listed h =
-      let r : NamedWall = record { place = l .place; wall = l .wall; cell = at } in
+      let r : NamedWall = record { place = l .place; wall = l .wall; row = at } in
       let staged : In stageNumber (pos (l .wall .stage .0)) = record {
         low = record { le = le→leb 1 (l .wall .stage .0) (a .least) };
-        high = record { le = le→leb (l .wall .stage .0) 12 (a .most) };
+        high = record { le = le→leb (l .wall .stage .0) stagesMost (a .most) };
       } in
       let after = ruled-after s p (l .place) wallLine Shown (λ row. none) by-six false NoSuchWall (said e) (a .after) in
       after-weaker s p (l .place) (readLine wallLine by-six) (Kept s p (l .place) wallLine Shown (λ row. none) by-six false NoSuchWall) (Named S r)

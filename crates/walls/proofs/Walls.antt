@@ -5,13 +5,14 @@ use mathlib.Core.Bool.{Bool, true, false, _&&_}
 use mathlib.Core.List.{List, [], _∷_, _++_, map, map-append}
 use mathlib.Core.Option.{Option}
 use native.Mathlib.Numerals.{add-one}
-use lib.ListN.{length, set, replicate}
+use lib.ListN.{length}
 use lib.Signed.{ltZ}
-use Rattle.sheet.specs.declared.Reading.{Reading}
+use Rattle.sheet.specs.declared.SectionReadings.{SectionReadings}
 use Rattle.sheet.specs.declared.Refusal.{Refusal}
 use Rattle.sheet.specs.declared.Refusal.the-variants.{ReadTwice, Colder}
 use Rattle.sheet.specs.Firing.{Section, Wall}
-use Rattle.sheet.specs.Shown.{cell, reading, laid, unread}
+use Rattle.sheet.specs.Shown.{before, column, reading, lay, laid, unreadSections}
+use Rattle.sheet.specs.Quantities.{sectionsMost}
 use Rattle.text.specs.Bytes.{bytes}
 use Rattle.document.specs.Schema.{Row}
 use Rattle.document.specs.Tests.{when, _else_, isRead, wall-rule}
@@ -31,27 +32,35 @@ use Rattle.walls.specs.Walls.{wall, six, Named, WallsShown}
 use Rattle.walls.proofs.Readings.{laid-read, laid-more, placed-more}
 use Rattle.walls.proofs.Rulings.{seven, nine, inOrder, fault-is}
 
--- the place after rules 7 and 9, by what lies in the line's cell
-abbrev pub settled : ℕ → NamedWall → List Reading → Place
-settled n r cells = ruled n (ruled n (r .place) (readAt cells (r .cell)) ReadTwice) (ltZ (r .wall .surface .0) (r .wall .air .0)) Colder
+-- the cells with the line's reading in its own
+abbrev pub stored : NamedWall → List SectionReadings → List SectionReadings
+stored r cells = lay cells (r .row) (column (wall (r .wall))) (reading (wall (r .wall)))
 
-settled-passes : (n : ℕ) (r : NamedWall) (cells : List Reading) → good (r .place) ≡ false → settled n r cells ≡ r .place
+-- whether that cell was read
+abbrev seenIn : NamedWall → List SectionReadings → Bool
+seenIn r cells = readAt cells (r .row) (column (wall (r .wall)))
+
+-- the place after rules 7 and 9, by what lies in the line's cell
+abbrev pub settled : ℕ → NamedWall → List SectionReadings → Place
+settled n r cells = ruled n (ruled n (r .place) (seenIn r cells) ReadTwice) (ltZ (r .wall .surface .0) (r .wall .air .0)) Colder
+
+settled-passes : (n : ℕ) (r : NamedWall) (cells : List SectionReadings) → good (r .place) ≡ false → settled n r cells ≡ r .place
 settled-passes n r cells h =
-    let once = ruled n (r .place) (readAt cells (r .cell)) ReadTwice in
-    let e = not-good n (r .place) ReadTwice (good (r .place)) (readAt cells (r .cell)) h in
+    let once = ruled n (r .place) (seenIn r cells) ReadTwice in
+    let e = not-good n (r .place) ReadTwice (good (r .place)) (seenIn r cells) h in
     not-good n once Colder (good once) (ltZ (r .wall .surface .0) (r .wall .air .0)) (ap (λ (y : Place). good y) e ∙ h) ∙ e
 
-pub settled-fair : {s : List ℕ} (n : ℕ) (r : NamedWall) (cells : List Reading) → (good (r .place) ≡ true → Fair s (r .place))
+pub settled-fair : {s : List ℕ} (n : ℕ) (r : NamedWall) (cells : List SectionReadings) → (good (r .place) ≡ true → Fair s (r .place))
     → good (settled n r cells) ≡ true → Fair s (settled n r cells)
 settled-fair {s} n r cells f =
-    let read = readAt cells (r .cell) in
+    let read = seenIn r cells in
     let once = ruled n (r .place) read ReadTwice in
     good-test n once Colder s (good once && ltZ (r .wall .surface .0) (r .wall .air .0)) (good-test n (r .place) ReadTwice s (good (r .place) && read) f)
 
 agree : {S S′ : List Section} {k k′ : ℕ} {ws ws′ : List Wall} (x : Wall) → S ≡ S′ → k ≡ k′ → ws ≡ ws′ → inOrder S k ws x ≡ inOrder S′ k′ ws′ x
 agree x p q r = rw (p, q, r)
 
-module _ (s : List ℕ) (S : List Section) (k : ℕ) (few : length S ≤ 12) (seen : Sheet) (none-yet : lacks (bytes "wall") seen ≡ true)
+module _ (s : List ℕ) (S : List Section) (k : ℕ) (few : length S ≤ sectionsMost) (seen : Sheet) (none-yet : lacks (bytes "wall") seen ≡ true)
     (above : sectionsIn seen ≡ S) (so-many : length (stagesIn seen) ≡ k) where
   -- document 01's rule at a row, with the rows above it
   rule-is : (rows : List Row) (row : Row) → inOrder S k (map wallOf rows) (wallOf row) ≡ wall-rule (seen ++ filled wallLine rows) row
@@ -62,32 +71,32 @@ module _ (s : List ℕ) (S : List Section) (k : ℕ) (few : length S ≤ 12) (se
       let walls-are : wallsIn here ≡ map wallOf rows = ap (map wallOf) (rows-here wallLine rows seen none-yet) in
       sym (fault-is (stagesIn here) (sectionsIn here) (wallsIn here) (wallOf row) ∙ agree (wallOf row) S-is k-is walls-are)
 
-  module _ (cells : List Reading) (rows : List Row) (shown : WallsShown S cells rows) (r : NamedWall) where
+  module _ (cells : List SectionReadings) (rows : List Row) (shown : WallsShown S cells rows) (r : NamedWall) where
     -- 7 by the cell
-    read-is : (row : Row) → Named S r row → isRead (map wallOf rows) (wallOf row .section) (wallOf row .stage) ≡ readAt cells (r .cell)
+    read-is : (row : Row) → Named S r row → isRead (map wallOf rows) (wallOf row .section) (wallOf row .stage) ≡ seenIn r cells
     read-is row h =
         ap (λ (x : Wall). isRead (map wallOf rows) (x .section) (x .stage)) (sym (h .shown))
         ∙ sym (laid-read S few (wall (r .wall)) (h .placed) (map wallOf rows) (shown .placed))
-        ∙ ap₂ readAt (sym (shown .lie)) (sym (h .here))
+        ∙ ap₂ (λ (c : List SectionReadings) (i : ℕ). readAt c i (column (wall (r .wall)))) (sym (shown .lie)) (sym (h .here))
 
     -- the reading in its cell
-    wall-shown : (row : Row) → Named S r row → WallsShown S (set cells (r .cell) (reading (wall (r .wall)))) (rows ++ (row ∷ []))
+    wall-shown : (row : Row) → Named S r row → WallsShown S (stored r cells) (rows ++ (row ∷ []))
     wall-shown row h =
         let one = map-append wallOf rows (row ∷ []) in
         record {
           lie =
-              ap (λ (i : ℕ). set cells i (reading (wall (r .wall)))) (h .here)
-              ∙ ap₂ (λ (c : List Reading) (x : Wall). set c (cell S x) (reading x)) (shown .lie) (h .shown)
-              ∙ sym (laid-more S (replicate 144 unread) (map wallOf rows) (wallOf row)) ∙ ap (laid S (replicate 144 unread)) (sym one);
+              ap (λ (i : ℕ). lay cells i (column (wall (r .wall))) (reading (wall (r .wall)))) (h .here)
+              ∙ ap₂ (λ (c : List SectionReadings) (x : Wall). lay c (before (x .section) S) (column x) (reading x)) (shown .lie) (h .shown)
+              ∙ sym (laid-more S unreadSections (map wallOf rows) (wallOf row)) ∙ ap (laid S unreadSections) (sym one);
           placed = rw one (placed-more S (map wallOf rows) (wallOf row) (shown .placed) (subst (Placed S) (h .shown) (h .placed)));
         }
 
     -- rules 7 and 9 after rule 6
     ruled-wall : (q : Place) → After s q (readLine wallLine (λ row. six S k (wallOf row))) (r .place) (Named S r)
         → After s q (readLine wallLine (wall-rule (seen ++ filled wallLine rows))) (settled (q .line) r cells)
-        (λ row. WallsShown S (set cells (r .cell) (reading (wall (r .wall)))) (rows ++ (row ∷ [])))
+        (λ row. WallsShown S (stored r cells) (rows ++ (row ∷ [])))
     ruled-wall q a =
-        let read = readAt cells (r .cell) in
+        let read = seenIn r cells in
         let cold = ltZ (r .wall .surface .0) (r .wall .air .0) in
         let once = ruled (q .line) (r .place) read ReadTwice in
         let by-six : Row → Option Refusal = λ row. six S k (wallOf row) in
@@ -97,26 +106,26 @@ module _ (s : List ℕ) (S : List Section) (k : ℕ) (few : length S ≤ 12) (se
         rule-as wallLine (λ row. inOrder S k (map wallOf rows) (wallOf row)) (wall-rule (seen ++ filled wallLine rows)) (rule-is rows)
         (after-weaker s q (settled (q .line) r cells) (readLine wallLine (λ row. inOrder S k (map wallOf rows) (wallOf row)))
         (Kept s q once wallLine P (λ row. by-six row else by-seven row) by-nine cold Colder)
-        (λ row. WallsShown S (set cells (r .cell) (reading (wall (r .wall)))) (rows ++ (row ∷ []))) (λ row h. wall-shown row (h .0 .0))
+        (λ row. WallsShown S (stored r cells) (rows ++ (row ∷ []))) (λ row h. wall-shown row (h .0 .0))
         (ruled-after s q once wallLine P (λ row. by-six row else by-seven row) by-nine cold Colder
         (λ row h. ap (λ (x : Wall). nine x) (sym (h .0 .shown)))
         (ruled-after s q (r .place) wallLine (Named S r) by-six by-seven read ReadTwice
         (λ row h. ap (λ (t : Bool). when t ReadTwice) (read-is row h)) a)))
 
   -- where the line was refused the cells stay as they were, and of what was read nothing is said
-  if-good : {p q : Place} {cells cells′ : List Reading} (t : Bool) (m : Reader (List Row)) → good q ≡ t → (good q ≡ true → cells′ ≡ cells)
+  if-good : {p q : Place} {cells cells′ : List SectionReadings} (t : Bool) (m : Reader (List Row)) → good q ≡ t → (good q ≡ true → cells′ ≡ cells)
       → After s p m q (WallsShown S cells) → After s p m q (WallsShown S cells′)
   if-good true m e same x = rw (same e) x
   if-good {p} {q} {cells} {cells′} false m e same x = after-refused s p q m (WallsShown S cells) (WallsShown S cells′) e x
 
-  pub next : (p q : Place) (r : NamedWall) (i : ℕ) (cells cells′ : List Reading)
+  pub next : (p q : Place) (r : NamedWall) (i : ℕ) (cells cells′ : List SectionReadings)
       → After s p (readRows i wallLine wall-rule seen []) q (WallsShown S cells)
       → After s q (readLine wallLine (λ row. six S k (wallOf row))) (r .place) (Named S r)
-      → (good (settled (q .line) r cells) ≡ true → cells′ ≡ set cells (r .cell) (reading (wall (r .wall))))
+      → (good (settled (q .line) r cells) ≡ true → cells′ ≡ stored r cells)
       → After s p (readRows (i + 1) wallLine wall-rule seen []) (settled (q .line) r cells) (WallsShown S cells′)
   next p q r i cells cells′ a b same =
       let q′ = settled (q .line) r cells in
-      let cells″ = set cells (r .cell) (reading (wall (r .wall))) in
+      let cells″ = stored r cells in
       let done : After s p (readRows (i + 1) wallLine wall-rule seen []) q′ (WallsShown S cells″) =
       rw (add-one i)
       (block-more s wallLine wall-rule seen p q q′ i (WallsShown S cells) (WallsShown S cells″) a (λ rows shown. ruled-wall cells rows shown r q b)

@@ -7,14 +7,15 @@ ghost use Rattle.due.specs.Place.{Ready};
 ghost use Rattle.walls.specs.Surfaces.{SurfacesRead};
 use crate::rows::wall_block;
 use due::Place;
+use quantity::sheet::SectionCount;
 use sections::section_block;
-use sheet::Reading;
+use sheet::SectionReadings;
 use sheet::Sections;
 
 pub struct Surfaces {
     pub place: Place,
     pub sections: Sections,
-    pub readings: [Reading; 144],
+    pub readings: [SectionReadings; SectionCount::GREATEST],
 }
 
 // The sections and the walls, for so many stages.

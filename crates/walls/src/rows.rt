@@ -23,13 +23,14 @@ use sections::section_place;
 use sheet::Reading;
 use sheet::Refusal;
 use sheet::Section;
+use sheet::SectionReadings;
 use sheet::Sections;
 
-// A wall line with the cell of its section and stage; a refused one has the first cell.
+// A wall line with the place of its section among the sections, from 0; a refused one has the first.
 pub struct NamedWall {
     pub place: Place,
     pub wall: Wall,
-    pub cell: usize,
+    pub row: usize,
 }
 
 // A wall line that names a section or a stage which there is not.
@@ -40,7 +41,7 @@ fn unnamed(line: usize, q: Place, wall: Wall) -> NamedWall
     NamedWall {
         place,
         wall,
-        cell: 0,
+        row: 0,
     }
 }
 
@@ -68,11 +69,7 @@ fn named_wall(
     if stages < stage.0 {
         return unnamed(p.line, place, wall);
     }
-    NamedWall {
-        place,
-        wall,
-        cell: row * 12 + (stage.0 - 1),
-    }
+    NamedWall { place, wall, row }
 }
 
 // Rules 7 and 9 on a wall line, by what lies in its cell.
@@ -89,7 +86,7 @@ fn read_once(line: usize, q: Place, there: Reading, w: Wall) -> Place
 
 pub struct WallRows {
     pub place: Place,
-    pub readings: [Reading; 144],
+    pub readings: [SectionReadings; SectionCount::GREATEST],
 }
 
 // n lines `wall`, laid into the cells of their section and stage.
@@ -105,21 +102,25 @@ fn wall_rows(
     requires { ⌜ Ready (now s) start ⌝ }
     ensures { λ r. ⌜ WallsAfter (now (s .entry)) start n (map section (take count sections)) stages (r .place) (r .readings) ⌝ }
 {
-    let none = sheet::blank::reading();
+    let none = sheet::blank::section_readings();
     let numbers = sections::numbers_of(sections);
-    let mut readings = [none; 144];
+    let mut readings = [none; SectionCount::GREATEST];
     let mut p = start;
     let mut i = 0;
     while i < n {
         let l = named_wall(s, p, &numbers, count, stages);
         let w = l.wall;
-        let cell = l.cell;
-        let there = readings[cell];
+        let row = l.row;
+        let stage = w.stage;
+        let column = stage.0 - 1;
+        let mut cells = readings[row];
+        let there = cells.stages[column];
         let q = l.place;
         p = read_once(p.line, q, there, w);
         if p.number == 0 {
             let x = reading_of(w);
-            readings[cell] = x;
+            cells.stages[column] = x;
+            readings[row] = cells;
         }
         i += 1;
     }

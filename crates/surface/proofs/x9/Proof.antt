@@ -1,12 +1,13 @@
 -- The loops' invariant: what is summed so far is the heat of the first sections in all stages, and of the next one in the first stages; over
 -- all of them it is the sum over the walls of the sheet. Assumes nothing.
-use Prim.Native.Nat.{_≤_, _<_, _-_, _+_, _*_, min}
+use Prim.Native.Nat.{_≤_, _<_, _-_, _*_, min}
 use mathlib.Core.Path.{_≡_, refl}
 use native.Mathlib.Omega.{arith}
 use borrow.Author.Needs.{needs}
-use lib.ListN.{length, getD}
+use lib.ListN.{length}
 use Rattle.sheet.specs.Firing.{Wall}
-use Rattle.sheet.specs.Shown.{unread}
+use Rattle.sheet.specs.Shown.{cell}
+use Rattle.sheet.specs.Quantities.{sectionsMost, stagesMost}
 use Rattle.sheet.proofs.Sums.{unmapped}
 use Rattle.formulas.specs.Formulas.{joule}
 use Rattle.formulas.specs.Sizes.{cellsMost, wallHeatMost}
@@ -18,15 +19,16 @@ use Rattle.surface.proofs.x9.Statement.{statement}
 use Rattle.surface.proofs.x9.Tie as tie
 
 abbrev Inv-loop2 : tie.InvT-loop2
-Inv-loop2 readings places times rows columns sum₀ i j₀ sum j =
-    (j ≤ columns) × (columns ≤ 12) × (i < rows) × (rows ≤ 12) × Reached joule wallHeatMost (coded readings places times) columns i j (sum .0)
+Inv-loop2 readings places times rows columns sum₀ i row j₀ sum j =
+    (j ≤ columns) × (columns ≤ stagesMost) × (i < rows) × (rows ≤ sectionsMost) × Reached joule wallHeatMost (coded readings places times) columns i j (sum .0)
 
 abbrev μ-loop2 : tie.MeasureT-loop2
-μ-loop2 readings places times rows columns sum₀ i j₀ sum j = columns - j
+μ-loop2 readings places times rows columns sum₀ i row j₀ sum j = columns - j
 
 abbrev Inv-loop : tie.InvT-loop
 Inv-loop readings places times rows columns sum₀ i₀ sum i =
-    (i ≤ rows) × (rows ≤ 12) × (columns ≤ 12) × Running joule wallHeatMost (i * 12) (sum .0) (grid (coded readings places times) i columns)
+    (i ≤ rows) × (rows ≤ sectionsMost) × (columns ≤ stagesMost)
+    × Running joule wallHeatMost (i * stagesMost) (sum .0) (grid (coded readings places times) i columns)
 
 abbrev μ-loop : tie.MeasureT-loop
 μ-loop readings places times rows columns sum₀ i₀ sum i = rows - i
@@ -36,25 +38,25 @@ abbrev start : tie.After-held2 Inv-loop2 μ-loop2 Inv-loop μ-loop → tie.Start
 start c = c .before .before .before .before
 
 abbrev outer : tie.At-loop2 Inv-loop2 μ-loop2 Inv-loop μ-loop → tie.At-loop Inv-loop2 μ-loop2 Inv-loop μ-loop
-outer c = c .before .before
+outer c = c .before .before .before
 
-abbrev inner : tie.After-wall-heat-arg3 Inv-loop2 μ-loop2 Inv-loop μ-loop → tie.At-loop2 Inv-loop2 μ-loop2 Inv-loop μ-loop
+abbrev inner : tie.After-wall-heat-arg2 Inv-loop2 μ-loop2 Inv-loop μ-loop → tie.At-loop2 Inv-loop2 μ-loop2 Inv-loop μ-loop
 inner c = c .before .before .before .before
 
--- both blocks have twelve places
-long : (s : tie.Start Inv-loop2 μ-loop2 Inv-loop μ-loop) → length (s .args .sections .lines) ≡ 12
+-- the arrays of both blocks have their length
+long : (s : tie.Start Inv-loop2 μ-loop2 Inv-loop μ-loop) → length (s .args .sections .lines) ≡ sectionsMost
 long s = search (needs, unmapped)
 
-wide : (s : tie.Start Inv-loop2 μ-loop2 Inv-loop μ-loop) → length (s .args .stages .lines) ≡ 12
+wide : (s : tie.Start Inv-loop2 μ-loop2 Inv-loop μ-loop) → length (s .args .stages .lines) ≡ stagesMost
 wide s = search (needs, unmapped)
 
 -- what was read in the cell
 abbrev read : tie.At-loop2 Inv-loop2 μ-loop2 Inv-loop μ-loop → Wall
-read c = wallOf (getD (start (outer c .before) .args .t1) (outer c .loop .i * 12 + c .loop2 .j) unread)
+read c = wallOf (cell (start (outer c .before) .args .t1) (outer c .loop .i) (c .loop2 .j))
 
 loop2-holds : tie.Need-loop2-holds Inv-loop2 μ-loop2 Inv-loop μ-loop
 loop2-holds c =
-    let l = c .before .loop in
+    let l = c .before .before .loop in
     (omega arith, omega arith, omega arith, omega arith, row-begun joule wallHeatMost _ _ (l .i) (l .inv .3))
 
 wall-heat-requires : tie.Need-wall-heat-requires Inv-loop2 μ-loop2 Inv-loop μ-loop
@@ -86,8 +88,8 @@ returns : tie.Need-returns Inv-loop2 μ-loop2 Inv-loop μ-loop
 returns c =
     let o = c .before in
     let s = start (o .before) in
-    let rows : min (s .args .sections .count .0) 12 ≡ o .loop .i = omega arith in
-    let columns : min (s .args .stages .count .0) 12 ≡ o .before .held2 .result = omega arith in
+    let rows : min (s .args .sections .count .0) sectionsMost ≡ o .loop .i = omega arith in
+    let columns : min (s .args .stages .count .0) stagesMost ≡ o .before .held2 .result = omega arith in
     let all = at-most cellsMost (omega arith) (o .loop .inv .3) in
     λ f seen. rw (← coded-total seen (long s) (wide s), rows, columns) all
 
@@ -95,7 +97,6 @@ pub x9-spec : {M : Type 1} → statement M
 x9-spec =
     tie.close
     (tie.spec Inv-loop2 μ-loop2 Inv-loop μ-loop (λ c κs. search needs) (λ c κs. search needs)
-    (λ c. (omega arith, omega arith, omega arith, begun joule wallHeatMost _ _)) loop2-holds
-    (λ c. omega arith) (λ c. omega arith) (λ c. omega arith) (λ c. omega arith)
-    (λ c. omega arith) (λ c. omega arith) (λ c. omega arith) (λ c. omega arith)
+    (λ c. (omega arith, omega arith, omega arith, begun joule wallHeatMost _ _)) (λ c. omega arith) (λ c. omega arith) loop2-holds
+    (λ c. omega arith) (λ c. omega arith) (λ c. omega arith) (λ c. omega arith) (λ c. omega arith) (λ c. omega arith)
     wall-heat-requires plus-requires (λ c. search needs) (λ c. search needs) loop2-again (λ c. search needs) (λ c. search needs) loop-again returns)

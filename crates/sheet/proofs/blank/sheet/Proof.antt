@@ -9,7 +9,8 @@ returns c =
     let part = section .before in
     let setter = part .before in
     let stage = setter .before in
-    rw (c .reading .ensures, section .section .ensures, part .part .ensures, setter .setter .ensures, stage .stage .ensures, stage .before .head .ensures)
+    let head = stage .before in
+    rw (c .section-readings .ensures, section .section .ensures, part .part .ensures, setter .setter .ensures, stage .stage .ensures, head .head .ensures)
 
 pub sheet-spec : {M : Type 1} → statement M
 sheet-spec =

@@ -8,7 +8,7 @@ use Rattle.limits.specs.declared.Number.{Number}
 use Rattle.limits.proofs.Laws.{CountBetween, count-within}
 use Rattle.sheet.specs.Firing.{Wall}
 use Rattle.document.specs.Schema.{plain}
-use Rattle.sheet.specs.Quantities.{stageNumber}
+use Rattle.sheet.specs.Quantities.{stageNumber, stagesMost}
 use Rattle.document.specs.Document01.{wallLine}
 use Rattle.document.specs.Rows.{wallOf}
 use Rattle.walls.specs.declared.line.Wall.{Wall as Wallˢ}
@@ -20,7 +20,7 @@ use Rattle.walls.proofs.line.wall_line.Statement.{statement}
 use Rattle.walls.proofs.line.wall_line.Tie as tie
 
 -- the stage of a wall whose numbers are held to their ranges
-held-stage : (x : Wallˢ) (v : List Number) → wall x ≡ wallOf (plain (heldTo (wallLine .fields) (from 0 4 v))) → CountBetween 1 12 (x .stage .0)
+held-stage : (x : Wallˢ) (v : List Number) → wall x ≡ wallOf (plain (heldTo (wallLine .fields) (from 0 4 v))) → CountBetween 1 stagesMost (x .stage .0)
 unfolding heldTo
 held-stage x v e = count-within (held-measured stageNumber (getD v 1 (record { 0 = pos 0 }) .0) (pos (x .stage .0)) (ap (λ (w : Wall). w .stage) e)) tt
 

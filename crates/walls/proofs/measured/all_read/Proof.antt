@@ -10,10 +10,10 @@ use Rattle.walls.proofs.measured.all_read.Statement.{statement}
 use Rattle.walls.proofs.measured.all_read.Tie as tie
 
 abbrev Inv-loop : tie.InvT-loop
-Inv-loop readings sections stages row₀ row = (row ≤ sections) × (allRead readings row stages ≡ true)
+Inv-loop sections stages readings row₀ row = (row ≤ sections) × (allRead readings row stages ≡ true)
 
 abbrev μ-loop : tie.MeasureT-loop
-μ-loop readings sections stages row₀ row = sections - row
+μ-loop sections stages readings row₀ row = sections - row
 
 loop-holds : tie.Need-loop-holds Inv-loop μ-loop
 unfolding allRead every
@@ -22,12 +22,12 @@ loop-holds c = (omega arith, refl)
 loop-again : tie.Need-loop-again Inv-loop μ-loop
 unfolding allRead
 loop-again c =
-    (omega arith, every-more _ _ (sym (c .before .row-read .ensures) ∙ c .if1 .taken) (c .before .before .before .loop .inv .1))
+    (omega arith, every-more _ _ (sym (c .before .row-read .ensures) ∙ c .if1 .taken) (c .before .before .before .before .loop .inv .1))
 
 returns : tie.Need-returns Inv-loop μ-loop
 unfolding allRead
 returns c =
-    sym (every-not _ _ _ (c .before .before .loop-test .taken) (sym (c .before .row-read .ensures) ∙ c .if1 .left))
+    sym (every-not _ _ _ (c .before .before .before .loop-test .taken) (sym (c .before .row-read .ensures) ∙ c .if1 .left))
 
 returns-2 : tie.Need-returns-2 Inv-loop μ-loop
 returns-2 c =
@@ -38,4 +38,5 @@ returns-2 c =
 pub all-read-spec : {M : Type 1} → statement M
 all-read-spec =
     tie.close
-    (tie.spec Inv-loop μ-loop loop-holds (λ c κs. search needs) (λ c. search needs) (λ c. search needs) loop-again returns returns-2)
+    (tie.spec Inv-loop μ-loop loop-holds (λ c. search needs) (λ c. search needs) (λ c κs. search needs) (λ c. search needs) (λ c. search needs)
+    loop-again returns returns-2)

@@ -5,16 +5,17 @@ use native.Mathlib.Omega.{arith}
 use borrow.Author.Tests.{eq-eqb, ne-eqb}
 use mathlib.Core.Path.{_≡_, refl, sym}
 use mathlib.Core.Bool.{true}
+use Rattle.sheet.proofs.Sums.{unmapped}
 use Rattle.walls.specs.Cells.{every, rowRead}
 use Rattle.walls.proofs.Every.{every-more, every-not}
 use Rattle.walls.proofs.measured.row_read.Statement.{statement}
 use Rattle.walls.proofs.measured.row_read.Tie as tie
 
 abbrev Inv-loop : tie.InvT-loop
-Inv-loop row stages readings stage₀ stage = (stage ≤ stages) × (rowRead readings row stage ≡ true)
+Inv-loop stages readings stage₀ stage = (stage ≤ stages) × (rowRead readings stage ≡ true)
 
 abbrev μ-loop : tie.MeasureT-loop
-μ-loop row stages readings stage₀ stage = stages - stage
+μ-loop stages readings stage₀ stage = stages - stage
 
 loop-holds : tie.Need-loop-holds Inv-loop μ-loop
 unfolding every
@@ -35,5 +36,5 @@ returns-2 c =
 pub row-read-spec : {M : Type 1} → statement M
 row-read-spec =
     tie.close
-    (tie.spec Inv-loop μ-loop loop-holds (λ c. search needs) (λ c. search needs) (λ c. search needs) (λ c. search needs) (λ c. search needs)
-    (λ c. search needs) loop-again returns returns-2)
+    (tie.spec Inv-loop μ-loop loop-holds (λ c. search needs) (λ c. search (needs, unmapped)) (λ c. search needs) (λ c. search needs) loop-again returns
+    returns-2)

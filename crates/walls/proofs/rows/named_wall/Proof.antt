@@ -46,6 +46,8 @@ returns c =
           not-there (l .result) (l .ensures) S (start found .args .stages)
           (unlisted S (start found .args .stages) (l .result .wall) (omega (arith, stands found lines e, many found lines e, c .before .if1 .taken)));
       inside = omega arith;
+      least = l .ensures .least;
+      most = l .ensures .most;
     })
 
 returns-2 : tie.Need-returns-2
@@ -57,11 +59,13 @@ returns-2 c =
           let S = shown found lines e in
           not-there (l .result) (l .ensures) S (start found .args .stages) (unstaged S (start found .args .stages) (l .result .wall) (c .before .if2 .taken));
       inside = omega arith;
+      least = l .ensures .least;
+      most = l .ensures .most;
     })
 
 returns-3 : tie.Need-returns-3
 returns-3 c =
-    let else1 = c .before .before .before in
+    let else1 = c .before .before in
     let found = else1 .before in
     let l = line found .wall-line in
     let w = l .result .wall in
@@ -70,13 +74,14 @@ returns-3 c =
           let S = shown found lines e in
           let listed : before (pos (w .section .0)) S < length S = omega (arith, stands found lines e, many found lines e, else1 .if1 .left) in
           there (l .result) (l .ensures) S (start found .args .stages) _
-          (both-there S (start found .args .stages) w listed (omega (arith, c .before .if2 .left))) listed
-          (ap (λ (j : ℕ). j * 12 + (w .stage .0 - 1)) (stands found lines e));
-      inside = omega (arith, else1 .if1 .left, start found .pre .0, l .ensures .most);
+          (both-there S (start found .args .stages) w listed (omega (arith, c .if2 .left))) listed
+          (stands found lines e);
+      inside = omega (arith, else1 .if1 .left, start found .pre .0);
+      least = l .ensures .least;
+      most = l .ensures .most;
     }
 
 pub named-wall-spec : {M : Type 1} → statement M
 named-wall-spec =
     tie.close
-    (tie.spec (λ c κs. search needs) section-place-requires (λ c κs. search needs) returns (λ c κs. search needs) returns-2
-    (λ c. search needs) (λ c. search needs) (λ c. search needs) returns-3)
+    (tie.spec (λ c κs. search needs) section-place-requires (λ c κs. search needs) returns (λ c κs. search needs) returns-2 returns-3)

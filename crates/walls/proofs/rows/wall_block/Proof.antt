@@ -1,6 +1,7 @@
 -- The count line, then so many lines. Assumes nothing.
 use borrow.Author.Needs.{needs}
 use Rattle.text.specs.Bytes.{bytes}
+use Rattle.sheet.specs.Quantities.{wallsMost}
 use Rattle.document.specs.Tests.{wall-rule}
 use Rattle.document.specs.Document01.{wallLine}
 use Rattle.due.proofs.Sequence.{block-after}
@@ -17,7 +18,7 @@ returns : tie.Need-returns
 returns c seen e f g =
     let rows = c .before in
     let counted = rows .before .before .before .before in
-    block-after (bytes "walls") 0 48 wallLine wall-rule seen (counted .wall-count .ensures) (c .wall-rows .ensures seen e f g)
+    block-after (bytes "walls") 0 wallsMost wallLine wall-rule seen (counted .wall-count .ensures) (c .wall-rows .ensures seen e f g)
 
 pub wall-block-spec : {M : Type 1} → statement M
 wall-block-spec = tie.close (tie.spec (λ c κs. search needs) wall-rows-requires returns)
