@@ -64,7 +64,7 @@ static const char *const refusals[] = {
     [HALLVISKA_TORN] = "the sheet ends before this line does, or goes on after its end",
 };
 
-/* Fourteen digits are more than any firing has, and times 20,000 they still fit 64 bits, which `share` needs. */
+/* Fourteen digits are more than any firing has, and times 10,000 they still fit 64 bits, which `share` needs. */
 enum { DIGITS_MOST = 14 };
 
 /* Takes `text` off the front of the report. The report ends where its length says and has no 0 byte, so no string function will do. */
@@ -104,11 +104,14 @@ static bool parse(const uint8_t *report, size_t length, int64_t numbers[ITEMS])
     return at == end;
 }
 
-/* The part of the whole in hundredths of a percent, to the nearest: whole numbers, so that every machine shows the same. */
+/* The part of the whole in hundredths of a percent, to the nearest and halves to the even one, as the report's own figures are rounded:
+ * whole numbers, so that every machine shows the same. */
 static int64_t share(int64_t part, int64_t whole)
 {
-    int64_t size = part < 0 ? -part : part;
-    int64_t rounded = (20000 * size + whole) / (2 * whole);
+    int64_t size = 10000 * (part < 0 ? -part : part);
+    int64_t rounded = size / whole, rest = size % whole;
+    if (rest > whole - rest || (rest == whole - rest && rounded % 2 != 0))
+        rounded++;
     return part < 0 ? -rounded : rounded;
 }
 

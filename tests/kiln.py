@@ -1,5 +1,5 @@
 """Judges and works the firing sheet of a gas-fired shuttle kiln as document 01 says,
-with what document 02 has changed since (T-01, T-02).
+with what document 02 has changed since (T-01, T-02, T-04).
 
 It is written to be held against that document, so every figure stands here in
 the document's own units and every value is an exact fraction until the document
@@ -9,7 +9,7 @@ rounds it.  It shares nothing with the library that it is compared with.
 import re
 import sys
 from fractions import Fraction as F
-from math import isqrt
+from math import floor, isqrt
 
 # --- The firing and its sheet -------------------------------------------------
 
@@ -168,10 +168,12 @@ def total_gas(sheet):
 # --- From reading to joules ---------------------------------------------------
 
 def rounded(value):
-    """The nearest whole number, halves away from zero."""
-    value = F(value)
-    whole = (2 * abs(value.numerator) + value.denominator) // (2 * value.denominator)
-    return whole if value >= 0 else -whole
+    """The nearest whole number, halves to the even one (GB/T 8170)."""
+    below = floor(value)
+    over = F(value) - below
+    if over == F(1, 2):
+        return below + below % 2
+    return below + (over > F(1, 2))
 
 
 def rounded_to(unit, value):

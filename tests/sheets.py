@@ -1,5 +1,5 @@
 """Document 01's own sheets: its worked example, its edges, those places that can be
-read in two ways, and what document 02's T-01 tells apart, each with its answer.
+read in two ways, and what document 02 tells apart, each with its answer.
 They are quotations; all other sheets are made by compare/sheets.
 
     sheets.py FOLDER    writes a sheet for each refusal there, with its answer
@@ -180,9 +180,18 @@ def boxes():
     ]
 
 
+def halves():
+    """(name, sheet, lines of its report) for T-04 of document 02: figures at a half, which go to the even digit."""
+    part = b'part=20000,1,0,200'
+    return [('no crystal water', changed((b'=500,500', b'=500,0')), 'useful=1876132 withset=2476132')] + [
+        # 10 kg that take up 0.05 kJ/(kg degree), 0.5 kJ for each degree that they are warmer than the room or colder
+        ('%s kJ in the kiln' % kilojoules, changed((part, b'part=100,0,500,%d' % (200 + 20 * kilojoules))), 'q8=%d' % due)
+        for kilojoules, due in ((-3.5, -4), (-2.5, -2), (-1.5, -2), (-0.5, 0), (0.5, 0), (1.5, 2), (2.5, 2), (3.5, 4))]
+
+
 def known():
-    """Every sheet here."""
-    return edges() + doubtful() + boxes()
+    """Every sheet here, with its refusal."""
+    return edges() + doubtful() + boxes() + [(name, data, ACCEPTED) for name, data, _ in halves()]
 
 
 def write_refused(folder):
