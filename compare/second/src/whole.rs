@@ -1,10 +1,12 @@
 //! Arithmetic on whole numbers: division to the nearest, and the root cut down.
 
-/// `n` over a positive `d`, to the nearest whole number, halves away from zero.
+/// `n` over a positive `d`, to the nearest whole number, halves to the even one.
 #[inline(always)]
 pub fn nearest(n: i64, d: i64) -> i64 {
-    let rest = n % d;
-    n / d + i64::from(rest >= d - rest) - i64::from(-rest >= d + rest)
+    let (whole, rest) = (n / d, n % d);
+    // beside an odd number a half counts as more than one
+    let odd = whole & 1;
+    whole + i64::from(rest + odd > d - rest) - i64::from(odd - rest > d + rest)
 }
 
 /// The greatest whole number whose square is not above `n`, which is below 2^63.
@@ -31,11 +33,15 @@ mod tests {
     use super::{nearest, root};
 
     #[test]
-    fn halves_go_away_from_zero() {
-        for (n, d, due) in [(5, 10, 1), (-5, 10, -1), (4, 10, 0), (-4, 10, 0), (15, 10, 2), (-15, 10, -2)] {
-            assert_eq!(nearest(n, d), due, "{n} over {d}");
+    fn halves_go_to_the_even_digit() {
+        for (n, due) in [(5, 0), (15, 2), (25, 2), (35, 4), (-5, 0), (-15, -2), (-25, -2), (-35, -4)] {
+            assert_eq!(nearest(n, 10), due, "{n} over 10");
+            assert_eq!(nearest(n / 5, 2), due, "{n} over 10");
         }
-        for (n, d, due) in [(1, 3, 0), (2, 3, 1), (-2, 3, -1), (-1, 3, 0), (0, 7, 0), (i64::MAX, 1, i64::MAX)] {
+        for (n, due) in [(4, 0), (6, 1), (14, 1), (16, 2), (24, 2), (26, 3), (10, 1), (20, 2), (0, 0)] {
+            assert_eq!((nearest(n, 10), nearest(-n, 10)), (due, -due), "{n} over 10");
+        }
+        for (n, d, due) in [(1, 3, 0), (2, 3, 1), (-2, 3, -1), (-1, 3, 0), (0, 7, 0), (5, 1, 5), (i64::MAX, 1, i64::MAX)] {
             assert_eq!(nearest(n, d), due, "{n} over {d}");
         }
     }

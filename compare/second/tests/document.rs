@@ -34,6 +34,15 @@ fn the_marked_wall_and_the_marked_half() {
     assert_eq!(firing.efficiencies()[0], 2_928);
 }
 
+/// 1,876,132.5 per tonne. Halves away from zero would print one more, in both lines.
+#[test]
+fn a_half_goes_to_the_even_digit() {
+    let mut room = [0; 400];
+    let said = answer(WORKED.replace("water=500,500,", "water=500,0,").as_bytes(), &mut room);
+    let report = std::str::from_utf8(&room[..said.length]).unwrap();
+    assert!(report.contains("\nuseful=1876132\nwithset=2476132\n"), "{report}");
+}
+
 #[test]
 fn the_edges_run_by_program() {
     assert_eq!(changed("product=10000", "product=1000"), (0, 0, 0));
