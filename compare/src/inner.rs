@@ -47,6 +47,15 @@ fn odd(dice: &mut Dice, least: i64, greatest: i64) -> i64 {
     least + 2 * dice.between(0, (greatest - least) / 2)
 }
 
+/// An odd number of tenths of a degree, now and then below zero.
+fn rise(dice: &mut Dice) -> i64 {
+    if dice.once_in(2) {
+        odd(dice, -99, 199)
+    } else {
+        odd(dice, 1, 9_999)
+    }
+}
+
 fn base(draft: &mut Draft) -> i64 {
     draft.first(AMBIENT)[0]
 }
@@ -107,7 +116,7 @@ fn fuel(draft: &mut Draft, dice: &mut Dice) {
 
 fn setter(draft: &mut Draft, dice: &mut Dice) {
     let entry = base(draft) + odd(dice, -99, 399);
-    let highest = entry + odd(dice, -1, 12_999);
+    let highest = entry + rise(dice);
     draft.first(WARE)[2] = highest;
     let (mass, heat) = half_mass(dice);
     draft.set(SETTER, &[mass, entry, 0, heat]);
@@ -116,7 +125,7 @@ fn setter(draft: &mut Draft, dice: &mut Dice) {
 fn part(draft: &mut Draft, dice: &mut Dice) {
     let base = base(draft);
     let before = base + odd(dice, -99, 399);
-    let firing = base + odd(dice, -99, 9_999);
+    let firing = base + rise(dice);
     let (mass, heat) = half_mass(dice);
     draft.set(PART, &[mass, 0, heat, before, firing]);
 }
@@ -248,12 +257,16 @@ fn root(n: u128) -> u128 {
     root
 }
 
-/// T-02's term in 1e-5 W/m², from roots that are cut down, less the greatest whole number whose fourth power is not above the exact term's.
+/// T-02's product of the factor, the drop and its fourth root by roots that are cut down, in 1e-11 W/m².
+pub fn product(place: usize, drop: i64) -> u128 {
+    let drop = drop as u128;
+    FACTORS[place] * drop * root(root(drop * 10_u128.pow(15)) * 10_u128.pow(8))
+}
+
+/// T-02's term in 1e-5 W/m², less the greatest whole number whose fourth power is not above the exact term's.
 fn beside_the_root(place: usize, drop: i64) -> i128 {
-    let (factor, drop) = (FACTORS[place], drop as u128);
-    let fourth = root(root(drop * 10_u128.pow(15)) * 10_u128.pow(8));
-    let term = (factor * drop * fourth + 500_000) / 1_000_000;
-    term as i128 - root(root(factor.pow(4) * drop.pow(5) * 10_u128.pow(7))) as i128
+    let term = (product(place, drop) + 500_000) / 1_000_000;
+    term as i128 - root(root(FACTORS[place].pow(4) * (drop as u128).pow(5) * 10_u128.pow(7))) as i128
 }
 
 /// What the two roots have lost comes to a whole unit.
@@ -281,13 +294,14 @@ fn break_at_800(draft: &mut Draft, dice: &mut Dice) {
 mod tests {
     use super::*;
 
-    /// Over all places and drops the term is that number, one unit more, or now and then one less.
+    /// Over all places and drops the term is that number, one unit more, or now and then one less, and its product is never at a half.
     #[test]
     fn the_term_stands_beside_the_root() {
         let mut met = [0; 3];
         for place in 1..4 {
             for drop in 0..=3_200 {
                 met[(beside_the_root(place, drop) + 1) as usize] += 1;
+                assert_ne!(product(place, drop) % 1_000_000, 500_000, "at a half");
             }
         }
         assert_eq!(met, [177, 6_802, 2_624]);
