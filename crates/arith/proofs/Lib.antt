@@ -5,6 +5,6 @@ pub mod Lin
 pub mod Span
 pub mod Machine
 pub mod NearestLaws
-pub mod Division
 pub mod RootLaws
 pub mod Examples
+pub mod Signed

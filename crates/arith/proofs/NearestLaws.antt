@@ -9,7 +9,7 @@ use native.Mathlib.Nat.{le-trans, mul-le-mul-left, mul-le-mul-right, mul-lt-mul-
 use native.Mathlib.Decide.{decLe}
 use native.Mathlib.Omega.{arith}
 use borrow.Author.Tests.{ltb-true, ltb-false, lt-ltb, le-ltb}
-use lib.Dec.{ltb}
+use lib.Dec.{ltb, lit<}
 use lib.IntN.{ℤ, pos, negsuc, negℤ, natAbs, _+ℤ_, _-ℤ_, _*ℤ_, negℤ-negℤ, ℤ-discrete, +ℤ-invr, *ℤ-zero}
 use lib.Signed.{_≤ℤ_}
 use Rattle.arith.specs.Nearest.{tie, settled, nearestℕ, nearest}
@@ -24,7 +24,7 @@ tie-low q = omega arith
 
 tie-high : (q : ℕ) → tie q ≤ suc q
 unfolding tie
-tie-high q = omega arith
+tie-high q = let two : 0 < 2 = lit< tt in omega (arith, mod-lt q two)
 
 -- ---- sizes: the quotient is no further than a half
 pub record Half (n d N : ℕ) : Type 0 where
@@ -188,3 +188,69 @@ nearest-ge n k {d} h l = subst (λ (z : ℤ). z ≤ℤ nearest n d) (nearest-exa
 
 pub nearest-nonneg : (n : ℤ) {d : ℕ} → 0 < d → pos 0 ≤ℤ n → pos 0 ≤ℤ nearest n d
 nearest-nonneg n {d} h l = nearest-ge n (pos 0) h (subst (λ (z : ℤ). z ≤ℤ n) (sym (*ℤ-zero (pos d))) l)
+
+-- ---- a half goes to the even one of the two
+two : 0 < 2
+two = lit< tt
+
+tie-even : (q : ℕ) → tie q % 2 ≡ 0
+unfolding tie
+tie-even q = let s = div-add-mod q 2 in let t = div-add-mod (q + q % 2) 2 in omega (arith, mod-lt q two, mod-lt (q + q % 2) two)
+
+-- where what is left over and what is wanting are not the same, the nearest is nearer than a half
+evenℕ : (n : ℕ) {d : ℕ} → 0 < d → 2 * natAbs (pos n -ℤ pos (d * nearestℕ n d)) ≡ d → nearestℕ n d % 2 ≡ 0
+unfolding nearestℕ
+evenℕ n {d} h = go (ltb (n % d) (d - n % d)) refl (ltb (d - n % d) (n % d)) refl
+  where
+    nearer : (q : ℕ) → 2 * n < 2 * (d * q) + d → 2 * (d * q) < 2 * n + d → 2 * natAbs (pos n -ℤ pos (d * q)) ≤ d - 1
+    nearer q l m =
+        let apart = parts (pos n ∷ pos (d * q) ∷ []) (v 0 ⊖ v 1) in
+        abs-within (pos n -ℤ pos (d * q)) n (d * q) 2 (d - 1) (omega (arith, apart)) (omega arith) (omega arith)
+
+    chosen : Bool → Bool → ℕ
+    chosen s t = cond s (n / d) (cond t (suc (n / d)) (tie (n / d)))
+
+    go : (s : Bool) → ltb (n % d) (d - n % d) ≡ s → (t : Bool) → ltb (d - n % d) (n % d) ≡ t
+        → 2 * natAbs (pos n -ℤ pos (d * chosen s t)) ≡ d → chosen s t % 2 ≡ 0
+    go true p t r e =
+        let a = ltb-true (n % d) (d - n % d) p in let b = div-add-mod n d in
+        let w : ⊥ = omega (arith, nearer (n / d) (omega arith) (omega arith)) in absurd w
+    go false p true r e =
+        let a = ltb-true (d - n % d) (n % d) r in let b = div-add-mod n d in let c = mod-lt n h in
+        let w : ⊥ = omega (arith, nearer (suc (n / d)) (omega arith) (omega arith)) in absurd w
+    go false p false r e = tie-even (n / d)
+
+-- n − d·N has the size of |n| − d·|N|
+same-size : (n : ℤ) (d : ℕ) → natAbs (n -ℤ pos d *ℤ nearest n d) ≡ natAbs (pos (natAbs n) -ℤ pos (d * nearestℕ (natAbs n) d))
+unfolding nearest
+same-size (pos n) d = refl
+same-size (negsuc n) d =
+    let N = nearestℕ (suc n) d in
+    ap natAbs (ring (pos (suc n) ∷ pos d ∷ pos N ∷ []) (⊝ (v 0) ⊖ v 1 ⊗ ⊝ (v 2)) (⊝ (v 0 ⊖ v 1 ⊗ v 2)) tt) ∙ abs-neg (pos (suc n) -ℤ pos (d * N))
+
+-- WHERE n IS EXACTLY HALF-WAY, THE RESULT IS EVEN
+pub ties-even : (n : ℤ) {d : ℕ} → 0 < d → 2 * natAbs (n -ℤ pos d *ℤ nearest n d) ≡ d → natAbs (nearest n d) % 2 ≡ 0
+ties-even n {d} h e = rw (nearest-abs n d) (evenℕ (natAbs n) h (ap (λ (m : ℕ). 2 * m) (sym (same-size n d)) ∙ e))
+
+even-apart : (q r : ℤ) → natAbs q % 2 ≡ 0 → natAbs r % 2 ≡ 0 → natAbs (r -ℤ q) ≤ 1 → q ≡ r
+even-apart q r a b h =
+    let s = div-add-mod (natAbs q) 2 in let t = div-add-mod (natAbs r) 2 in
+    eq↓ (omega (arith, abs-is q, abs-is r, abs-is (r -ℤ q), parts (q ∷ r ∷ []) (v 1 ⊖ v 0)))
+
+at-most-one : (k : ℕ) {d : ℕ} → 0 < d → d * k ≤ d → k ≤ 1
+at-most-one k {d} h l = go (decLe k 1)
+  where
+    go : Dec (k ≤ 1) → k ≤ 1
+    go (yes p) = p
+    go (no f) = let g : 2 ≤ k = omega arith in let e : ⊥ = omega (arith, mul-le-mul-left d g) in absurd e
+
+-- and it is the only one of the two neighbours that is
+pub ties-only : (n : ℤ) {d : ℕ} → 0 < d → (q : ℤ) → 2 * natAbs (n -ℤ pos d *ℤ q) ≡ d → natAbs q % 2 ≡ 0 → q ≡ nearest n d
+ties-only n {d} h q e a = go (apart q (nearest n d))
+  where
+    go : (q ≡ nearest n d) ⊎ (1 ≤ natAbs (nearest n d -ℤ q)) → q ≡ nearest n d
+    go (inl f) = f
+    go (inr j) =
+        let s = spread n d q (nearest n d) in let m = mul-le-mul-left d j in
+        let half : 2 * natAbs (n -ℤ pos d *ℤ nearest n d) ≡ d = omega (arith, nearest-error n h) in
+        even-apart q (nearest n d) a (ties-even n h half) (at-most-one (natAbs (nearest n d -ℤ q)) h (omega arith))

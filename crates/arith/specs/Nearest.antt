@@ -1,12 +1,12 @@
--- Division to the nearest whole number, as document 01 rounds: halves away from zero.
-use Prim.Native.Nat.{ℕ, suc, _-_, _/_, _%_}
+-- Division to the nearest whole number, halves to the even one.
+use Prim.Native.Nat.{ℕ, suc, _+_, _-_, _/_, _%_}
 use mathlib.Core.Bool.{cond}
 use lib.Dec.{ltb}
 use lib.IntN.{ℤ, pos, negsuc, negℤ}
 
--- THE RULE FOR TIES, here and nowhere else: a size half-way between q and q + 1 goes away from zero
+-- THE RULE FOR TIES, here and nowhere else: a size half-way between q and q + 1 goes to the even one of the two
 unfoldable pub tie : ℕ → ℕ
-tie q = suc q
+tie q = q + q % 2
 
 -- q, with `over` left over and `short` wanting to the next whole number
 abbrev pub settled : ℕ → ℕ → ℕ → ℕ
@@ -20,3 +20,8 @@ nearestℕ n d = settled (n / d) (n % d) (d - n % d)
 unfoldable pub nearest : ℤ → ℕ → ℤ
 nearest (pos n) d = pos (nearestℕ n d)
 nearest (negsuc n) d = negℤ (pos (nearestℕ (suc n) d))
+
+-- a size with the sign of a number
+abbrev pub withSign : ℤ → ℕ → ℤ
+withSign (pos n) m = pos m
+withSign (negsuc n) m = negℤ (pos m)

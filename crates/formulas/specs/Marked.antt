@@ -7,7 +7,7 @@ use lib.Dec.{T, eqb}
 use lib.IntN.{ℤ, pos}
 use Rattle.arith.specs.Nearest.{nearest, nearestℕ, tie}
 use Rattle.arith.specs.Root.{root, rootIn}
-use Rattle.sheet.specs.Firing.{Gas, Stuff, Stage, Section, Wall, Firing}
+use Rattle.sheet.specs.Firing.{Gas, Stuff, Water, Stage, Section, Wall, Firing}
 use Rattle.sheet.specs.Shown.{same}
 use Rattle.sheet.specs.Block.{sum}
 use Rattle.formulas.specs.Rounding.{paper}
@@ -51,9 +51,9 @@ wall = record { section = pos 3; stage = pos 1; surface = pos 560; air = pos 200
 abbrev still : Wall
 still = record { section = pos 3; stage = pos 1; surface = pos 200; air = pos 200 }
 
--- the worked firing
-abbrev pub worked : Firing
-worked = record {
+-- the worked firing, and the same with other waters
+abbrev withWater : Water → Firing
+withWater water = record {
   edition = pos 1;
   number = pos 7;
   product = pos 10000;
@@ -62,7 +62,7 @@ worked = record {
   gas = methane;
   moisture = pos 0;
   ware = record { green = pos 11000; entry = pos 200; highest = pos 12200; stuff = given };
-  water = record { adsorbed = pos 500; crystal = pos 500; flue = pos 2200 };
+  water = water;
   clay = pos 5000;
   stages = stage ∷ [];
   setters = record { mass = pos 5000; entry = pos 200; stuff = given } ∷ [];
@@ -70,6 +70,12 @@ worked = record {
   sections = section ∷ [];
   walls = wall ∷ [];
 }
+
+abbrev pub worked : Firing
+worked = withWater (record { adsorbed = pos 500; crystal = pos 500; flue = pos 2200 })
+
+abbrev noCrystal : Firing
+noCrystal = withWater (record { adsorbed = pos 500; crystal = pos 0; flue = pos 2200 })
 
 -- what is computed, what document 01 says in the formula's unit, and how many of the definitions' units that unit is
 record Case : Type 0 where
@@ -112,6 +118,9 @@ cases =
     -- printed per tonne, 2,049,277.5 is 2,049,278; and over q1, in 0.01 %
     ∷ case (printed worked (heat useful)) 2049278 1
     ∷ case (printed worked (share useful)) 2928 1
+    -- T-04, which none of these tells from halves away from zero: 1,876,132.5 is 1,876,132, and 2,476,132.5 is 2,476,132
+    ∷ case (printed noCrystal (heat useful)) 1876132 1
+    ∷ case (printed noCrystal (heat withset)) 2476132 1
     ∷ []
 
 holds : List Case → Bool

@@ -30,7 +30,7 @@ fourthPower n = n * n * (n * n)
 abbrev pub power : ℕ → ℕ → ℕ
 power a Δ = fourthPower (a * Δ) * Δ * 10 ^ 7
 
--- document 01: to the nearest, halves away from zero; the term as above
+-- document 01, with T-04: to the nearest, halves to the even one; the term as above
 abbrev pub paper : Rounding
 paper = record { to = λ k x. nearest x k *ℤ pos k; convection = λ w a Δ. convected a Δ }
 

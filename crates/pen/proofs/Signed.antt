@@ -12,7 +12,7 @@ use mir.ValLaws.{toZ-ofZ}
 use borrow.Author.Tests.{ltb-true}
 use Rattle.text.specs.Bytes.{bytes}
 use Rattle.text.specs.Decimal.{digits, decimal}
-use Rattle.text.proofs.Signed.{W}
+use Rattle.arith.proofs.Signed.{W}
 
 -- the text of a number by its sign, as a test of its bits says it; m is its magnitude
 module _ (z : ℤ) (m : ℕ) (f : SFits w64 z) (e : m ≡ natAbs (W z)) where

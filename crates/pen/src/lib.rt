@@ -6,22 +6,11 @@ ghost use lib.IntN.{natAbs};
 ghost use Rattle.text.specs.Decimal.{digits, decimal, line};
 ghost use Rattle.pen.specs.Writing.{Written};
 
-// A number without its sign; the least i64 has one too.
-pub fn magnitude(z: i64) -> u64
-    ensures { λ r. ⌜ r ≡ natAbs z ⌝ }
-{
-    if z < 0 {
-        (-(z + 1)) as u64 + 1
-    } else {
-        z as u64
-    }
-}
-
 // How much room a number's text takes.
 pub fn width(z: i64) -> usize
     ensures { λ r. ⌜ r ≡ length (decimal z) ⌝ }
 {
-    let n = digit_count(magnitude(z));
+    let n = digit_count(arith::magnitude(z));
     if z < 0 { n + 1 } else { n }
 }
 
@@ -64,7 +53,7 @@ pub fn number_at(out: &mut [u8], at: usize, z: i64) -> usize
     requires { ⌜ at + length (decimal z) ≤ length (now out) ⌝ }
     ensures { λ r. ⌜ Written at (decimal z) (now (out .entry)) (now (out .exit)) r ⌝ }
 {
-    let n = magnitude(z);
+    let n = arith::magnitude(z);
     if z < 0 {
         let next = bytes_at(out, at, b"-");
         return digits_at(out, next, n);

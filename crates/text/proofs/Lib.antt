@@ -1,4 +1,3 @@
 pub mod Scanning
 pub mod Decimal
 pub mod Reading
-pub mod Signed

@@ -1,96 +1,80 @@
--- The quotient, what is left over and one comparison give the nearest whole number (`Division`). What is read back from a signed local's
--- bits is the number, since it fits. Assumes nothing.
-use mathlib.Core.Path.{_≡_}
-use mathlib.Core.Bool.{true, false}
-use lib.IntN.{pos, natAbs, _-ℤ_, _+ℤ_}
-use lib.Signed.{ltZ, remZ, quotZ}
-use mir.Facts.{toZ-ofZ}
+-- The size is rounded and the sign stays, as the definition has it. Assumes nothing.
+use borrow.Author.Needs.{needs}
+use mathlib.Core.Path.{_≡_, refl, sym, ap, ap₂, _∙_, subst}
+use Prim.Native.Nat.{ℕ, zero, suc, _^_, _≤_, _<_, zero-le}
+use native.Mathlib.Nat.{le-of-suc-le-suc}
+use native.Mathlib.Omega.{arith}
+use lib.Dec.{T, ltb→lt}
+use lib.IntN.{ℤ, pos, negsuc, negℤ, natAbs}
+use lib.Signed.{mag, _<ℤ_, nonNeg}
 use mir.Syntax.{w64}
-use Rattle.arith.specs.Nearest.{nearest}
-use Rattle.arith.proofs.Division.{down, stay, rise, keep, bits-pos, quot-fits, rem-fits, nearest-fits, over-fits, short-fits, rest-fits}
+use mir.Val.{SFits}
+use mir.ValLaws.{sfits-le, toZ-ofZ}
+use Rattle.arith.specs.Nearest.{nearestℕ, nearest, withSign}
+use Rattle.arith.proofs.NearestLaws.{smallℕ}
+use Rattle.arith.proofs.Signed.{W}
 use Rattle.arith.proofs.nearest.Statement.{statement}
 use Rattle.arith.proofs.nearest.Tie as tie
 
-div-q : tie.Need-div-q
-div-q c = (bits-pos w64 (c .args .d) (c .pre), simp (toZ-ofZ (c .fits .n), toZ-ofZ (c .fits .d)) (quot-fits (c .pre) (c .fits .n) (c .fits .d)))
+parted : (n : ℤ) (d : ℕ) → withSign n (nearestℕ (natAbs n) d) ≡ nearest n d
+unfolding nearest
+parted (pos n) d = refl
+parted (negsuc n) d = refl
 
--- the first test, of the remainder's sign
-negative : (c : tie.Then1) → ltZ (remZ (c .before .args .n) (c .before .args .d)) (pos 0) ≡ true
-negative c =
-    let s = c .before in
-    simp (toZ-ofZ (s .fits .n), toZ-ofZ (s .fits .d), toZ-ofZ (rem-fits (s .pre) (s .fits .n) (s .fits .d))) at (c .if1 .taken)
+-- it is no larger than the dividend, and so fits
+minus-mag : (r : ℕ) {a : ℕ} → r ≤ suc a → mag (negℤ (pos r)) ≤ a
+minus-mag zero h = zero-le
+minus-mag (suc r) h = le-of-suc-le-suc h
 
-not-negative : (c : tie.Else1) → ltZ (remZ (c .before .args .n) (c .before .args .d)) (pos 0) ≡ false
-not-negative c =
-    let s = c .before in
-    simp (toZ-ofZ (s .fits .n), toZ-ofZ (s .fits .d), toZ-ofZ (rem-fits (s .pre) (s .fits .n) (s .fits .d))) at (c .if1 .left)
+nearest-mag : (n : ℤ) {d : ℕ} → 0 < d → mag (nearest n d) ≤ mag n
+unfolding nearest
+nearest-mag (pos a) h = smallℕ a h
+nearest-mag (negsuc a) {d} h = minus-mag (nearestℕ (suc a) d) (smallℕ (suc a) h)
 
-sub-over : tie.Need-sub-over
-sub-over c =
-    let s = c .before in let fn = s .fits .n in let fd = s .fits .d in
-    simp (toZ-ofZ fn, toZ-ofZ fd, toZ-ofZ (rem-fits (s .pre) fn fd)) (over-fits (s .pre) fn fd (negative c))
+-- the divisor as a size
+record Divides (d : ℤ) : Type 0 where
+  plain : T (nonNeg d)
+  some : 0 < natAbs d
+  small : natAbs d < 2 ^ 63
 
-sub-if2 : tie.Need-sub-if2
-sub-if2 c =
-    let s = c .before in let fn = s .fits .n in let fd = s .fits .d in
-    simp (toZ-ofZ fn, toZ-ofZ fd, toZ-ofZ (rem-fits (s .pre) fn fd), toZ-ofZ (over-fits (s .pre) fn fd (negative c)))
-    (short-fits (s .pre) fn fd (negative c))
+divides : (d : ℤ) → pos 0 <ℤ d → SFits w64 d → Divides d
+divides (pos k) h f = record { plain = tt; some = ltb→lt 0 k (h .lt); small = f .sfits }
+divides (negsuc k) h f = absurd (h .lt)
 
-sub-if3 : tie.Need-sub-if3
-sub-if3 c =
-    let s = c .before in let fn = s .fits .n in let fd = s .fits .d in
-    simp (toZ-ofZ fn, toZ-ofZ fd, toZ-ofZ (rem-fits (s .pre) fn fd)) (rest-fits (s .pre) fn fd (not-negative c))
+divisor : (s : tie.Start) → Divides (W (s .args .d))
+divisor s = subst Divides (sym (toZ-ofZ w64 (s .args .d) (s .fits .d))) (divides (s .args .d) (s .pre) (s .fits .d))
 
--- the four results
-downward : (c : tie.Then2) → quotZ (c .before .before .args .n) (c .before .before .args .d) -ℤ pos 1
-    ≡ nearest (c .before .before .args .n) (natAbs (c .before .before .args .d))
-downward c =
-    let s = c .before .before in let fn = s .fits .n in let fd = s .fits .d in let g = negative (c .before) in
-    down (s .args .n) (s .args .d) (s .pre) g
-    (simp (toZ-ofZ fn, toZ-ofZ fd, toZ-ofZ (rem-fits (s .pre) fn fd), toZ-ofZ (over-fits (s .pre) fn fd g), toZ-ofZ (short-fits (s .pre) fn fd g)) at
-    (c .if2 .taken))
+cast-nearest-size : tie.Need-cast-nearest-size
+cast-nearest-size c = let k = divisor (c .before) in (k .plain, record { fits = omega (arith, k .small) })
 
-upward : (c : tie.Then3) → quotZ (c .before .before .args .n) (c .before .before .args .d) +ℤ pos 1
-    ≡ nearest (c .before .before .args .n) (natAbs (c .before .before .args .d))
-upward c =
-    let s = c .before .before in let fn = s .fits .n in let fd = s .fits .d in let g = not-negative (c .before) in
-    rise (s .args .n) (s .args .d) (s .pre) g
-    (simp (toZ-ofZ fn, toZ-ofZ fd, toZ-ofZ (rem-fits (s .pre) fn fd), toZ-ofZ (rest-fits (s .pre) fn fd g)) at (c .if3 .taken))
+-- what the two calls give together
+given : (c : tie.After-nearest-size) → let a = c .before .before .args in withSign (W (a .n)) (c .nearest-size .result) ≡ nearest (a .n) (natAbs (a .d))
+given c =
+    let s = c .before .before in
+    let back = toZ-ofZ w64 (s .args .n) (s .fits .n) in
+    let by = ap natAbs (toZ-ofZ w64 (s .args .d) (s .fits .d)) in
+    let size = c .nearest-size .ensures ∙ ap₂ nearestℕ (c .before .magnitude .ensures ∙ ap natAbs back) by in
+    ap₂ withSign back size ∙ parted (s .args .n) (natAbs (s .args .d))
 
-sub-result : tie.Need-sub-result
-sub-result c =
-    let s = c .before .before in let fn = s .fits .n in let fd = s .fits .d in
-    simp (toZ-ofZ fn, toZ-ofZ fd, toZ-ofZ (quot-fits (s .pre) fn fd), downward c) (nearest-fits (s .pre) fn fd)
+fitting : (s : tie.Start) → SFits w64 (nearest (s .args .n) (natAbs (s .args .d)))
+fitting s = sfits-le (nearest-mag (s .args .n) (divides (s .args .d) (s .pre) (s .fits .d) .some)) (s .fits .n)
 
-add-result : tie.Need-add-result
-add-result c =
-    let s = c .before .before in let fn = s .fits .n in let fd = s .fits .d in
-    simp (toZ-ofZ fn, toZ-ofZ fd, toZ-ofZ (quot-fits (s .pre) fn fd), upward c) (nearest-fits (s .pre) fn fd)
+with-sign-requires : tie.Need-with-sign-requires
+with-sign-requires c κs =
+    let s = c .before .before in
+    subst (SFits w64) (sym (given c)) (fitting s)
 
 returns : tie.Need-returns
 returns c =
-    let s = c .before .before in let fn = s .fits .n in let fd = s .fits .d in
-    simp (toZ-ofZ fn, toZ-ofZ fd, toZ-ofZ (quot-fits (s .pre) fn fd), downward c, toZ-ofZ (nearest-fits (s .pre) fn fd))
-
-returns-2 : tie.Need-returns-2
-returns-2 c =
-    let s = c .before .before in let fn = s .fits .n in let fd = s .fits .d in let g = negative (c .before) in
-    let e = stay (s .args .n) (s .args .d) (s .pre) g
-    (simp (toZ-ofZ fn, toZ-ofZ fd, toZ-ofZ (rem-fits (s .pre) fn fd), toZ-ofZ (over-fits (s .pre) fn fd g), toZ-ofZ (short-fits (s .pre) fn fd g)) at
-    (c .if2 .left)) in
-    simp (toZ-ofZ fn, toZ-ofZ fd, e, toZ-ofZ (nearest-fits (s .pre) fn fd))
-
-returns-3 : tie.Need-returns-3
-returns-3 c =
-    let s = c .before .before in let fn = s .fits .n in let fd = s .fits .d in
-    simp (toZ-ofZ fn, toZ-ofZ fd, toZ-ofZ (quot-fits (s .pre) fn fd), upward c, toZ-ofZ (nearest-fits (s .pre) fn fd))
-
-returns-4 : tie.Need-returns-4
-returns-4 c =
-    let s = c .before .before in let fn = s .fits .n in let fd = s .fits .d in let g = not-negative (c .before) in
-    let e = keep (s .args .n) (s .args .d) (s .pre) g
-    (simp (toZ-ofZ fn, toZ-ofZ fd, toZ-ofZ (rem-fits (s .pre) fn fd), toZ-ofZ (rest-fits (s .pre) fn fd g)) at (c .if3 .left)) in
-    simp (toZ-ofZ fn, toZ-ofZ fd, e, toZ-ofZ (nearest-fits (s .pre) fn fd))
+    let s = c .before .before .before in
+    ap W (c .with-sign .ensures ∙ given (c .before)) ∙ toZ-ofZ w64 (nearest (s .args .n) (natAbs (s .args .d))) (fitting s)
 
 pub nearest-spec : {M : Type 1} → statement M
-nearest-spec = tie.close (tie.spec div-q div-q sub-over sub-if2 sub-result sub-if3 add-result returns returns-2 returns-3 returns-4)
+nearest-spec =
+    tie.close
+    (tie.spec
+    (λ c κs. search needs)
+    cast-nearest-size
+    (λ c κs. let k = divisor (c .before) in (k .some, k .small))
+    with-sign-requires
+    returns)

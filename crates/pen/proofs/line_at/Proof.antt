@@ -6,7 +6,7 @@ use lib.ListN.{length}
 use mir.Syntax.{w64}
 use mir.ValLaws.{toZ-ofZ}
 use Rattle.text.specs.Decimal.{line}
-use Rattle.text.proofs.Signed.{W}
+use Rattle.arith.proofs.Signed.{W}
 use Rattle.pen.proofs.Writing.{in-part}
 use Rattle.pen.proofs.line_at.Statement.{statement}
 use Rattle.pen.proofs.line_at.Tie as tie

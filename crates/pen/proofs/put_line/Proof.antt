@@ -8,7 +8,7 @@ use mir.ValLaws.{toZ-ofZ}
 use borrow.Author.Needs.{needs}
 use Rattle.text.specs.Decimal.{decimal}
 use Rattle.text.proofs.Decimal.{length-line, line-pieces}
-use Rattle.text.proofs.Signed.{W}
+use Rattle.arith.proofs.Signed.{W}
 use Rattle.pen.proofs.Writing.{next}
 use Rattle.pen.proofs.put_line.Statement.{statement}
 use Rattle.pen.proofs.put_line.Tie as tie

@@ -17,7 +17,7 @@ use Rattle.text.specs.Scanning.{begins}
 use Rattle.text.specs.Number.{unsigned, negated, numberWithin}
 use Rattle.text.proofs.Reading.{unsigned-text, below-most}
 use Rattle.text.proofs.Scanning.{begins-key}
-use Rattle.text.proofs.Signed.{W, Turned, turned}
+use Rattle.arith.proofs.Signed.{W, Turned, turned}
 use Rattle.text.proofs.read.number_within.Statement.{statement}
 use Rattle.text.proofs.read.number_within.Tie as tie
 

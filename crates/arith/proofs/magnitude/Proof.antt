@@ -13,9 +13,9 @@ use mir.Val.{SFits, Fits}
 use mir.ValLaws.{toZ-ofZ}
 use borrow.Author.Needs.{needs}
 use borrow.Author.Tests.{ltb-true}
-use Rattle.text.proofs.Signed.{W, negative-fits}
-use Rattle.pen.proofs.magnitude.Statement.{statement}
-use Rattle.pen.proofs.magnitude.Tie as tie
+use Rattle.arith.proofs.Signed.{W, negative-fits}
+use Rattle.arith.proofs.magnitude.Statement.{statement}
+use Rattle.arith.proofs.magnitude.Tie as tie
 
 up : (n : ℕ) → negsuc n +ℤ pos 1 ≡ negℤ (pos n)
 up zero = +ℤ-one (negsuc zero)
