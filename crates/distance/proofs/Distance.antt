@@ -1,5 +1,6 @@
 -- Demand 3: the proof of a heat follows its formula, and how far the heat is off is computed along the way; a side is off by what its items are.
--- What is allowed is asked once, at the end; the nearest to it is x11, 323.5 J of 350. Assumes nothing.
+-- What is allowed is asked once, at the end; the nearest to it is x11, 323.5 J of 350, and for each 1,000 square-metre-hours 90 J of 200.
+-- Assumes nothing.
 use Prim.Native.Nat.{ℕ, zero, suc, _+_, _*_, _/_, _^_, _-_, _≤_, _<_}
 use mathlib.Core.Path.{_≡_, ap}
 use mathlib.Core.Bool.{Bool, true, false, cond, _&&_}

@@ -29,7 +29,7 @@ abbrev pub standIn : Stand → ℕ → ℕ
 standIn greatest n = root (root n)
 standIn oneMore n = root (root n) + 1
 
--- the fourth powers of the two enclose it, and no greater number's is not above it
+-- the fourth powers of the two enclose it, and every number whose own is not above it is at most the lesser
 pub record Enclosed (n : ℕ) : Type 0 where
   pub low : fourthPower (standIn greatest n) ≤ n
   pub high : n < fourthPower (standIn oneMore n)

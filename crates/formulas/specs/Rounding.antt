@@ -23,7 +23,7 @@ fourthRoot Δ = root (squareRoot Δ * 10 ^ 8)
 abbrev pub convected : ℕ → ℕ → ℕ
 convected a Δ = nearestℕ (a * Δ * fourthRoot Δ) (10 ^ 6)
 
--- the fourth power of A Δ ⁴√Δ itself is a fraction of whole numbers, (A Δ)⁴ Δ: in (1e-5 W/m²)⁴
+-- the exact term is no fraction of whole numbers, but its fourth power is: (A Δ)⁴ Δ, in (1e-5 W/m²)⁴
 abbrev pub fourthPower : ℕ → ℕ
 fourthPower n = n * n * (n * n)
 
