@@ -10,7 +10,8 @@ use Rattle.burning.specs.declared.mixture.Warmth.{Warmth}
 use Rattle.burning.specs.Mixture.{Warmed}
 
 -- two straight lines that meet at 0 and at 1
-module _ (a b c d : ℤ) (at-0 : a *ℤ pos 1000 +ℤ b *ℤ pos 0 ≡ c *ℤ pos 1000 +ℤ d *ℤ pos 0) (at-1 : a *ℤ pos 1000 +ℤ b *ℤ pos 1 ≡ c *ℤ pos 1000 +ℤ d *ℤ pos 1) where
+module _ (a b c d : ℤ) (at-0 : a *ℤ pos 1000 +ℤ b *ℤ pos 0 ≡ c *ℤ pos 1000 +ℤ d *ℤ pos 0)
+    (at-1 : a *ℤ pos 1000 +ℤ b *ℤ pos 1 ≡ c *ℤ pos 1000 +ℤ d *ℤ pos 1) where
   start : a *ℤ pos 1000 ≡ c *ℤ pos 1000
   start =
       ring (a ∷ b ∷ []) (v 0 ⊗ # 1000) (v 0 ⊗ # 1000 ⊕ v 1 ⊗ # 0) tt ∙ at-0 ∙ ring (c ∷ d ∷ []) (v 0 ⊗ # 1000 ⊕ v 1 ⊗ # 0) (v 0 ⊗ # 1000) tt

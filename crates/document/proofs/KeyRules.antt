@@ -135,7 +135,8 @@ module _ (stages : List Stage) (sections : List Section) (above : List Wall) (w 
   wall-heard k (colder e l t n c) = record { refusal = Colder; is = colder-heard stages sections above w l t n c; numbered = sym e; fielded = refl }
 
   wall-whole : (x : Refusal) → wallFault stages sections above w ≡ some x → field x ≡ 0
-  wall-whole x e = here (isListed sections (w .section)) (ltZ (pos (length stages)) (w .stage)) (isRead above (w .section) (w .stage)) (ltZ (w .surface) (w .air)) e
+  wall-whole x e =
+      here (isListed sections (w .section)) (ltZ (pos (length stages)) (w .stage)) (isRead above (w .section) (w .stage)) (ltZ (w .surface) (w .air)) e
     where
       here : (a b c d : Bool) → (when (not a) NoSuchWall else when b NoSuchWall else when c ReadTwice else when d Colder) ≡ some x → field x ≡ 0
       here false b c d e = let z : x ≡ NoSuchWall = cc in ap field z
