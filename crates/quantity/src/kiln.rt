@@ -1,5 +1,6 @@
 // The stages of a firing and the sections of the kiln.
 ghost use Rattle.limits.specs.Checked.{Measured, Counted};
+use crate::sheet::StageCount;
 use limits::Number;
 use limits::counted;
 use limits::measured;
@@ -15,7 +16,7 @@ pub struct StageNumberRead {
 impl StageNumber {
     pub const LEAST: usize = 1;
 
-    pub const GREATEST: usize = 12;
+    pub const GREATEST: usize = StageCount::GREATEST;
 
     // Checks the stage of a line `wall`.
     pub fn checked(v: Number, fault: usize, field: usize) -> StageNumberRead
