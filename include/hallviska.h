@@ -1,7 +1,8 @@
 /* The balance of one firing of a gas-fired shuttle kiln, for callers in C and C++.
  *
  * One function: from the bytes of a sheet to the bytes of its report, or to a refusal. The rules of the sheet, the report's lines and
- * the refusals are those of document 01, as document 02 has changed them since. The library is made for x86-64 Linux, by `rt staticlib kiln`.
+ * the refusals are those of document 01, as document 02 has changed them since; docs/RULES.md has them whole. The library is made for
+ * x86-64 Linux, by `rt staticlib kiln`.
  */
 #ifndef HALLVISKA_H
 #define HALLVISKA_H
