@@ -2,6 +2,7 @@
 # $built/module.bc; `compile_module OBJECT WORD...` compiles that module as the library is compiled, but for this processor.
 # The script sets `built` before.
 
+tools/needs rt
 machine=$(uname -m)
 kit=${RATTLE_HOME:-$(dirname "$(dirname "$(readlink -f "$(command -v rt)")")")}
 

@@ -1,18 +1,15 @@
 # For scripts of bash to read: what makes and runs a program for x86-64, for which alone the library is made.
-# It sets `compiler` and `runner`, and brings `install` (install.sh). The script sets `built` before.
+# It sets `compiler` and `runner`, and asks for cargo too, as all who read it do.
 
-. compare/install.sh
+tools/needs rust x86-64
 
 if [ "$(uname -m)" = x86_64 ]; then
     compiler=gcc
     runner=()
-    command -v gcc >/dev/null || install gcc libc6-dev
 else
+    tools/needs rt
     compiler=x86_64-linux-gnu-gcc
     root=/usr/x86_64-linux-gnu
-    if ! command -v $compiler >/dev/null || [ ! -e $root/lib/libc.so ]; then
-        install gcc-x86-64-linux-gnu libc6-dev-amd64-cross
-    fi
     kit=${RATTLE_HOME:-$(dirname "$(dirname "$(readlink -f "$(command -v rt)")")")}
     # The toolchain brings an emulator. Unless it is told to be a plain processor, the C library copies with instructions that it has to
     # take byte by byte, and all is ten times as slow.
