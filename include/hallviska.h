@@ -20,8 +20,8 @@ extern "C" {
 /* Room in which every report fits: 20 lines, each of a key of at most 7 characters, '=', at most 20 characters and LF, are 580 bytes. */
 #define HALLVISKA_REPORT_MOST 1024
 
-/* The numbers of document 01, "What the clerk hears", and of document 02. Where line and field are not 0, they are the sheet's line and
- * that line's field, each counted from 1. */
+/* The refusals of docs/RULES.md, section 3, which also says in which order they are looked for. Where line and field are not 0, they are
+ * the sheet's line and that line's field, each counted from 1. */
 enum hallviska_refusal {
     HALLVISKA_ACCEPTED = 0,      /* no refusal: the report is written; line 0 */
     HALLVISKA_TOO_LONG = 1,      /* the sheet is longer than 16,384 bytes; line 0 */
