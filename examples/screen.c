@@ -18,8 +18,8 @@ struct item {
     const char *words;
 };
 
-/* The three lines that are treated apart. A place that did not fit the table below would be an error of the compiler's. */
-enum { FIRING = 0, INCOME = 6, EFFICIENCY = 18 };
+/* The lines that are treated apart. A place that did not fit the table below would be an error of the compiler's. */
+enum { FIRING = 0, HELD = 5, INCOME = 6, BODY = 14, EFFICIENCY = 18 };
 
 static const struct item items[] = {
     [FIRING] = {"firing", NULL, "number of the firing"},
@@ -27,7 +27,7 @@ static const struct item items[] = {
     {"q2", NULL, "the gas, warm as it came"},
     {"q3", NULL, "the setters, as they went in"},
     {"q5", NULL, "the green ware, as it went in"},
-    {"q8", NULL, "the kiln, before it was lit"},
+    [HELD] = {"q8", NULL, "the kiln, before it was lit"},
     [INCOME] = {"in", NULL, "all of it"},
     {"x1", "Where it went", "into the ware"},
     {"x2", NULL, "into the water of the ware"},
@@ -36,8 +36,8 @@ static const struct item items[] = {
     {"x7", NULL, "up the chimney as hot flue gas"},
     {"x8", NULL, "up the chimney as CO, unburnt"},
     {"x9", NULL, "through roof, walls and floor"},
-    {"x10", NULL, "into the kiln itself"},
-    {"x11", NULL, "somewhere else"},
+    [BODY] = {"x10", NULL, "into the kiln itself"},
+    {"x11", NULL, "not accounted for, or misread"},
     {"useful", "What the firing was for", "heat that the ware needed"},
     {"withset", NULL, "the same with its setters"},
     [EFFICIENCY] = {"eff1", "Of the burnt gas's heat", "the ware needed"},
@@ -53,7 +53,7 @@ static const char *const refusals[] = {
     [HALLVISKA_FORM] = "this is not the line that is due here, or it has too few or too many numbers",
     [HALLVISKA_RANGE] = "a number is too small or too great",
     [HALLVISKA_MATERIAL] = "a listed material has its own specific heat, and material 0 needs one",
-    [HALLVISKA_GAS] = "the shares of the gas do not add to 100 %, or it would burn without air",
+    [HALLVISKA_GAS] = "the shares of the gas do not add to 100 %, or there is nothing in it for air to burn",
     [HALLVISKA_SECTION] = "this section is listed twice, or this wall's section or stage is not listed",
     [HALLVISKA_READ_TWICE] = "this section has been read in this stage already",
     [HALLVISKA_NOT_READ] = "a section has not been read in every stage",
@@ -64,7 +64,7 @@ static const char *const refusals[] = {
     [HALLVISKA_TORN] = "the sheet ends before this line does, or goes on after its end",
 };
 
-/* Fourteen digits are more than any firing has, and times 10,000 they still fit 64 bits, which `share` needs. */
+/* Fourteen digits are more than any firing has. Two such figures together, times 10,000, still fit 64 bits, which `share` needs. */
 enum { DIGITS_MOST = 14 };
 
 /* Takes `text` off the front of the report. The report ends where its length says and has no 0 byte, so no string function will do. */
@@ -124,6 +124,16 @@ static void show_percent(int64_t hundredths)
     printf(" %12s\n", text);
 }
 
+/* A heat and its share of the income. Things colder than the air can bring in less than nothing, and there is no share of that. */
+static void show_heat(int64_t heat, int64_t income)
+{
+    printf(" %14" PRId64, heat);
+    if (income > 0)
+        show_percent(share(heat, income));
+    else
+        printf(" %12s\n", "-");
+}
+
 static void show(const int64_t numbers[ITEMS])
 {
     printf("Firing %-37" PRId64 " %14s %12s\n", numbers[FIRING], "kJ/t", "% of income");
@@ -131,18 +141,18 @@ static void show(const int64_t numbers[ITEMS])
         if (items[i].heading)
             printf("\n%s\n", items[i].heading);
         printf("  %-8s%-34s", items[i].key, items[i].words);
-        if (i >= EFFICIENCY) {
+        if (i < EFFICIENCY) {
+            show_heat(numbers[i], numbers[INCOME]);
+        } else {
             /* The library gives these two as shares already, in hundredths of a percent. */
             printf(" %14s", "");
             show_percent(numbers[i]);
-        } else if (numbers[INCOME] > 0) {
-            printf(" %14" PRId64, numbers[i]);
-            show_percent(share(numbers[i], numbers[INCOME]));
-        } else {
-            /* Things colder than the air can bring in less than nothing. There is no share of that. */
-            printf(" %14" PRId64 " %12s\n", numbers[i], "-");
         }
     }
+    /* What a kiln that was lit warm took at this firing is neither line of the report. */
+    printf("\nOf the heat in the kiln itself\n  %-8s%-34s", "x10-q8", "new: not there before it was lit");
+    show_heat(numbers[BODY] - numbers[HELD], numbers[INCOME]);
+    puts("\nPercents are of all that came in (in); those of eff1 and eff2 are of the gas, burnt (q1).");
 }
 
 /* Some bytes of the sheet, from `begin` up to but without `end`. */

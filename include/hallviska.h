@@ -28,7 +28,7 @@ enum hallviska_refusal {
     HALLVISKA_FORM = 2,          /* another key or number of fields than is due */
     HALLVISKA_RANGE = 3,         /* a field outside its range; `sheet` or `end` that isn't 1; has its field */
     HALLVISKA_MATERIAL = 4,      /* material 0 without a specific heat, or material 1..18 with one; has its field */
-    HALLVISKA_GAS = 5,           /* the gas shares don't add to 10,000, or the gas needs no air to burn */
+    HALLVISKA_GAS = 5,           /* the gas shares don't add to 10,000, or there is nothing in it for air to burn */
     HALLVISKA_SECTION = 6,       /* a section number given twice; a wall line for a section or a stage that isn't there */
     HALLVISKA_READ_TWICE = 7,    /* this section has been read in this stage already */
     HALLVISKA_NOT_READ = 8,      /* some section has no reading in some stage; line 0 */
