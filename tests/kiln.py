@@ -1,5 +1,5 @@
 """Judges and works the firing sheet of a gas-fired shuttle kiln as document 01 says,
-with what document 02 has changed since (T-01, T-02, T-04).
+with what document 02 has changed since (T-01 to T-04).
 
 It is written to be held against that document, so every figure stands here in
 the document's own units and every value is an exact fraction until the document
@@ -9,7 +9,11 @@ rounds it.  It shares nothing with the library that it is compared with.
 import re
 import sys
 from fractions import Fraction as F
-from math import floor, isqrt
+from math import isqrt
+
+from gases import (ANALYSED_MOST, analysed, dry_flue, dry_flue_heat, mixed_heat, read_by_analyser,
+                   theoretical_air, vapour)
+from rounding import joules_of, rounded, rounded_to, tenths
 
 # --- The firing and its sheet -------------------------------------------------
 
@@ -25,9 +29,11 @@ SHARE = (0, 10_000)                 # 0.01 %
 # A wall line names a section and so has the range of a section number.
 SECTION = (1, 999)
 
-# The fields of every line.
-LINES = {
-    'sheet': {'edition': (1, 1)},
+GAS, EXCESS, CO, MINUTES = (0, 200_000), (1_000, 5_000), (0, 1_000), (1, 2_880)
+
+# The fields of every line of sheet 1.
+SHEET_1 = {
+    'sheet': {'edition': (1, 2)},
     'firing': {'number': (1, 999_999_999)},
     'product': {'mass': (1_000, 1_000_000)},
     'ambient': {'t': NEAR},
@@ -41,8 +47,7 @@ LINES = {
     'water': {'adsorbed': MASS, 'crystal': MASS, 'flue': FLUE},
     'clay': {'mass': MASS},
     'stages': {'count': (1, 12)},
-    'stage': {'gas': (0, 200_000), 'excess': (1_000, 5_000), 'flue': FLUE,
-              'CO': (0, 1_000), 'minutes': (1, 2_880)},
+    'stage': {'gas': GAS, 'excess': EXCESS, 'flue': FLUE, 'CO': CO, 'minutes': MINUTES},
     'setters': {'count': (0, 32)},
     'setter': {'mass': MASS, 'in': TEMPERATURE, 'material': MATERIAL, 'c': C},
     'parts': {'count': (0, 32)},
@@ -56,11 +61,18 @@ LINES = {
     'end': {'edition': (1, 1)},
 }
 
+# On sheet 2 a stage has what the analyser read, CO2 with SO2 as a pair, and is no hotter than table A.1.
+ANALYSED_STAGE = {'gas': GAS, 'excess': EXCESS, 'flue': (0, 10_000), 'CO': CO,
+                  'pair': (0, 2_500), 'O2': (0, 2_100), 'minutes': MINUTES}
+
+# The fields of every line by edition.
+LINES = {1: SHEET_1, 2: SHEET_1 | {'stage': ANALYSED_STAGE}}
+
 # The lines of a block follow the line that counts them.
 BLOCKS = {'stages': 'stage', 'setters': 'setter', 'parts': 'part',
           'sections': 'section', 'walls': 'wall'}
 
-ORDER = [key for key in LINES if key not in BLOCKS.values()]
+ORDER = [key for key in SHEET_1 if key not in BLOCKS.values()]
 
 TOTAL_GAS = (100, 200_000)          # 0.1 m3
 
@@ -68,7 +80,7 @@ TOTAL_GAS = (100, 200_000)          # 0.1 m3
 NUMBER = re.compile(rb'0|-?[1-9][0-9]{0,8}')
 
 # What a sheet can be refused for.  11 is for the room that a caller lends.
-REFUSALS = [*range(1, 11), 12, 13]
+REFUSALS = [*range(1, 11), 12, 13, 14]
 
 
 # --- What the clerk hears -----------------------------------------------------
@@ -79,6 +91,8 @@ def read(data):
         return 'refused', 1, 0, 0
     sheet = {key: [] for key in BLOCKS.values()}
     due = list(ORDER)
+    # Every edition has the same first line, which says what the others are.
+    forms = SHEET_1
     line = 0
     rest = data
     while due:
@@ -87,7 +101,7 @@ def read(data):
         # At the end of the bytes the text is empty and lacks its LF, so a sheet
         # that stops early is refused at the first line that is not there.
         text, lf, rest = rest.partition(b'\n')
-        number, field, fields = read_line(key, text) if lf else (13, 0, None)
+        number, field, fields = read_line(key, forms[key], text) if lf else (13, 0, None)
         if not number:
             number, field = broken_rule(sheet, key, fields)
         if number:
@@ -96,6 +110,8 @@ def read(data):
             sheet[key].append(fields)
         else:
             sheet[key] = fields
+        if key == 'sheet':
+            forms = LINES[fields['edition']]
         if key in BLOCKS:
             due[:0] = [BLOCKS[key]] * fields['count']
     if rest:
@@ -110,17 +126,17 @@ def read(data):
     return 'good', sheet
 
 
-def read_line(key, text):
+def read_line(key, form, text):
     """Refusal 2, 12 or 3 with its field, or 0, 0; and the line's fields by name, where they are numbers."""
     found, equals, value = text.partition(b'=')
     values = value.split(b',')
-    if found != key.encode() or not equals or len(values) != len(LINES[key]):
+    if found != key.encode() or not equals or len(values) != len(form):
         return 2, 0, None
     field = leftmost(not NUMBER.fullmatch(v) for v in values)
     if field:
         return 12, field, None
-    fields = dict(zip(LINES[key], map(int, values)))
-    field = leftmost(not within(fields[name], limits) for name, limits in LINES[key].items())
+    fields = dict(zip(form, map(int, values)))
+    field = leftmost(not within(fields[name], limits) for name, limits in form.items())
     return 3 if field else 0, field, fields
 
 
@@ -134,7 +150,7 @@ def within(value, limits):
 
 
 def broken_rule(sheet, key, fields):
-    """The least of refusals 4, 5, 6, 7 and 9 that this line earns, or 0; and its field, which only 4 has."""
+    """The least of refusals 4, 5, 6, 7, 9 and 14 that this line earns, or 0; and its field, which only 4 has."""
     if key in ('ware', 'setter', 'part'):
         # A material of the table brings its own c, so exactly one is given.
         if (fields['material'] == 0) == (fields['c'] == 0):
@@ -142,6 +158,9 @@ def broken_rule(sheet, key, fields):
     if key == 'gas':
         if sum(fields.values()) != 10_000 or theoretical_air(fields) <= 0:
             return 5, 0
+    if key == 'stage' and analysed(fields):
+        if sum(read_by_analyser(fields).values()) > ANALYSED_MOST:
+            return 14, 0
     if key == 'section':
         if any(s['number'] == fields['number'] for s in sheet['section']):
             return 6, 0
@@ -166,27 +185,6 @@ def total_gas(sheet):
 
 
 # --- From reading to joules ---------------------------------------------------
-
-def rounded(value):
-    """The nearest whole number, halves to the even one (GB/T 8170)."""
-    below = floor(value)
-    over = F(value) - below
-    if over == F(1, 2):
-        return below + below % 2
-    return below + (over > F(1, 2))
-
-
-def rounded_to(unit, value):
-    return rounded(value / F(unit)) * F(unit)
-
-
-def joules_of(kilojoules):
-    return rounded(1_000 * kilojoules)
-
-
-def tenths(value):
-    return F(value, 10)
-
 
 # Table A.2: c = a + b T, and for two materials another line above 800.0 degrees.
 SPECIFIC_HEAT = {
@@ -226,60 +224,6 @@ def specific_heat(record, at):
 def sensible(mass, record, first, second):
     """m c (first - second) in joules; c is taken at the temperature that stands first."""
     return joules_of(tenths(mass) * specific_heat(record, first) * tenths(first - second))
-
-
-# Table A.1 at 0 and at 100 degrees, 0.001 kJ/(m3 degree).
-GAS_HEAT = {
-    'H2': (1275, 1287), 'N2': (1296, 1300), 'CO': (1300, 1301), 'O2': (1304, 1317),
-    'H2O': (1488, 1501), 'CO2': (1597, 1697), 'CH4': (1563, 1651),
-    'C2H4': (1869, 2103), 'C2H6': (2061, 2061), 'C3H8': (3043, 3959),
-    'C4H10': (4122, 5250), 'H2S': (1530, 1559), 'SO2': (1777, 1860),
-}
-
-
-def mixed_heat(gas, temperature):
-    """kJ/(m3 degree) of the fuel at its temperature in tenths, not rounded."""
-    return sum(F(gas[name], 10_000) * (at0 + (at100 - at0) * F(temperature, 1_000)) / 1_000
-               for name, (at0, at100) in GAS_HEAT.items())
-
-
-# m and n of each CmHn.  CH4 isn't here because it has a term of its own.
-HYDROCARBONS = {'C2H4': (2, 4), 'C2H6': (2, 6), 'C3H8': (3, 8), 'C4H10': (4, 10)}
-
-
-def percent(gas):
-    return {name: F(share, 100) for name, share in gas.items()}
-
-
-def theoretical_air(gas):
-    """(B.3), m3 per m3."""
-    p = percent(gas)
-    return (F('0.0238') * (p['CO'] + p['H2'])
-            + F('0.0952') * p['CH4']
-            + sum(F('0.0476') * (m + F(n, 4)) * p[name]
-                  for name, (m, n) in HYDROCARBONS.items())
-            + F('0.0714') * p['H2S']
-            - F('0.0476') * p['O2'])
-
-
-def dry_flue(gas, excess):
-    """(B.10) with (B.4) put in, m3 per m3; the excess air is in thousandths."""
-    p = percent(gas)
-    burnt = (p['CO'] + p['CH4']
-             + sum(m * p[name] for name, (m, n) in HYDROCARBONS.items())
-             + p['N2'] + p['CO2'] + p['H2S'] + p['SO2'])
-    return burnt / 100 + (F(excess, 1_000) - F('0.21')) * theoretical_air(gas)
-
-
-def vapour(gas, excess, moisture):
-    """(B.15), kg per m3, rounded to 1e-9 kg."""
-    p = percent(gas)
-    water = (p['H2'] + 2 * p['CH4']
-             + sum(F(n, 2) * p[name] for name, (m, n) in HYDROCARBONS.items())
-             + p['H2S'] + p['H2O'])
-    carried = (F('1.293') * F(excess, 1_000) * theoretical_air(gas)
-               * F(moisture, 10_000))
-    return rounded_to('1e-9', carried + 18 / F('22.4') * water / 100)
 
 
 A = {1: F('3.26'), 2: F('2.56'), 3: F('2.10')}
@@ -337,7 +281,7 @@ def joules(sheet):
         steam = rounded_to('1e-6', tenths(stage['gas'])
                            * vapour(gas, stage['excess'], sheet['air']['moisture']))
         above = tenths(stage['flue'] - t)
-        j['x7'] += joules_of(volume * F('1.384') * above)
+        j['x7'] += joules_of(volume * dry_flue_heat(stage) * above)
         j['x7'] += joules_of(steam * F('1.93') * above)
         j['x8'] += joules_of(volume * F(stage['CO'], 10_000) * 12750)
 

@@ -60,15 +60,20 @@ eff2=3785
 """
 
 
-def changed(*pairs):
-    """The worked example with some of its text exchanged."""
-    data = EXAMPLE
+def changed(*pairs, data=EXAMPLE):
+    """The worked example, or this sheet, with some of its text exchanged."""
     for old, new in pairs:
         # A text that isn't there exactly once would leave the example as it was.
         assert data.count(old) == 1, old
         data = data.replace(old, new)
     return data
 
+
+# T-03 of document 02: the same firing on sheet 2, whose stage has what the analyser read.
+ANALYSIS = b'0,1050,190,600'
+ANALYSED_STAGE = b'stage=2000,1100,8200,' + ANALYSIS
+ANALYSED = changed((b'sheet=1', b'sheet=2'), (b'stage=2000,1100,8200,0,600', ANALYSED_STAGE))
+ANALYSED_REPORT = EXAMPLE_REPORT.replace('x7=2593943', 'x7=2698522').replace('x11=420717', 'x11=316137')
 
 ACCEPTED = (0, 0, 0)
 WALL = b'wall=3,1,560,200\n'
@@ -93,7 +98,7 @@ def edges():
         ('16,384 bytes', EXAMPLE.ljust(LONGEST, b'\n'), (13, 22, 0)),
         ('a byte after end', EXAMPLE + b'x', (13, 22, 0)),
         ('end without LF', EXAMPLE[:-1], (13, 21, 0)),
-        ('sheet 2', changed((b'sheet=1', b'sheet=2')), (3, 1, 1)),
+        ('sheet 0', changed((b'sheet=1', b'sheet=0')), (3, 1, 1)),
         ('end 2', changed((b'end=1', b'end=2')), (3, 21, 1)),
         ('material 0 without c', changed((b'12200,0,10000', b'12200,0,0')), (4, 8, 4)),
         ('material 1 with c', changed((b'12200,0,10000', b'12200,1,1')), (4, 8, 4)),
@@ -189,15 +194,61 @@ def halves():
         for kilojoules, due in ((-3.5, -4), (-2.5, -2), (-1.5, -2), (-0.5, 0), (0.5, 0), (1.5, 2), (2.5, 2), (3.5, 4))]
 
 
+def editions():
+    """The like for T-03 of document 02: sheet 2's own ranges and its refusal 14, and the two sheets' lines exchanged."""
+    def read(analysis):
+        return changed((ANALYSIS, analysis), data=ANALYSED)
+
+    def flue(tenths):
+        return changed((b'8200,0,', tenths + b',0,'), data=ANALYSED)
+
+    return [
+        ('sheet 3', changed((b'sheet=2', b'sheet=3'), data=ANALYSED), (3, 1, 1)),
+        ('sheet 0 with an analysis', changed((b'sheet=2', b'sheet=0'), data=ANALYSED), (3, 1, 1)),
+        ('sheet 2 with the stage of sheet 1', changed((b'sheet=1', b'sheet=2')), (2, 12, 0)),
+        ('sheet 1 with the stage of sheet 2', changed((b'sheet=2', b'sheet=1'), data=ANALYSED), (2, 12, 0)),
+        ('all three 4,000', read(b'0,2000,2000,600'), ACCEPTED),
+        ('all three 4,001', read(b'0,2000,2001,600'), (14, 12, 0)),
+        ('all three 4,001 with CO', read(b'1000,1500,1501,600'), (14, 12, 0)),
+        ('a pair of 2,500', read(b'0,2500,1500,600'), ACCEPTED),
+        ('a pair of 2,501', read(b'0,2501,0,600'), (3, 12, 5)),
+        ('a pair below nothing', read(b'0,-1,0,600'), (3, 12, 5)),
+        ('O2 of 2,100', read(b'0,0,2100,600'), ACCEPTED),
+        ('O2 of 2,101', read(b'0,0,2101,600'), (3, 12, 6)),
+        ('CO of 1,001', read(b'1001,0,0,600'), (3, 12, 4)),
+        ('no minutes and too much of all three', read(b'1000,2500,2100,0'), (3, 12, 7)),
+        ('too much of all three', read(b'1000,2500,2100,600'), (14, 12, 0)),
+        ('2,880 minutes', read(b'0,1050,190,2880'), ACCEPTED),
+        ('2,881 minutes', read(b'0,1050,190,2881'), (3, 12, 7)),
+        ('an empty O2', read(b'0,1050,,600'), (12, 12, 6)),
+        ('a letter, and too much of all three', read(b'1000,25OO,2100,0'), (12, 12, 5)),
+        ('six fields', read(b'0,1050,600'), (2, 12, 0)),
+        ('eight fields', read(b'0,1050,190,0,600'), (2, 12, 0)),
+        ('a stage with an analysis and no LF', ANALYSED[:ANALYSED.index(b'\nsetters')], (13, 12, 0)),
+        ('flue 10,000', flue(b'10000'), ACCEPTED),
+        ('flue 10,001', flue(b'10001'), (3, 12, 3)),
+        ('flue 0', flue(b'0'), ACCEPTED),
+        ('flue 12,000 on sheet 1', changed((b'8200,0', b'12000,0')), ACCEPTED),
+        ('flue for the water 12,000 on sheet 2', changed((b'500,2200', b'500,12000'), data=ANALYSED), ACCEPTED),
+        ('flue for the water 12,001 on sheet 2', changed((b'500,2200', b'500,12001'), data=ANALYSED), (3, 9, 3)),
+        ('gas 99 on sheet 2', changed((b'stage=2000', b'stage=99'), data=ANALYSED), (10, 0, 0)),
+    ]
+
+
+def reports():
+    """(name, sheet, lines of its report) for what document 02 has changed."""
+    return [('the worked example on sheet 2', ANALYSED, ANALYSED_REPORT), *halves()]
+
+
 def known():
     """Every sheet here, with its refusal."""
-    return edges() + doubtful() + boxes() + [(name, data, ACCEPTED) for name, data, _ in halves()]
+    return edges() + doubtful() + boxes() + editions() + [(name, data, ACCEPTED) for name, data, _ in reports()]
 
 
 def write_refused(folder):
     """refused-N.sheet and refused-N.report for every refusal that a sheet can earn."""
     first = {}
-    for _, data, due in edges() + boxes():
+    for _, data, due in edges() + boxes() + editions():
         first.setdefault(due[0], (data, due))
     for number in REFUSALS:
         data, due = first[number]

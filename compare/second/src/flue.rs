@@ -13,6 +13,20 @@ pub struct Burning {
     vapour: i64,
 }
 
+/// A stage of the firing, as far as its flue is concerned.
+#[derive(Clone, Copy)]
+pub struct Stage {
+    pub gas: i64,
+    pub excess: i64,
+    pub flue: i64,
+    pub co: i64,
+    /// The specific heat of its dry flue, in 0.001 kJ/(m³ °C).
+    pub capacity: i64,
+}
+
+/// The specific heat of dry flue that nobody has analysed.
+pub const UNANALYSED: i64 = 1_384;
+
 impl Burning {
     /// None where the shares don't add up, or where no air is needed.
     pub fn of(shares: &[i64; 13]) -> Option<Burning> {
@@ -44,12 +58,12 @@ impl Burning {
 
     /// The heat that a stage's flue carries off, and the heat of its CO, in joules.
     #[inline]
-    pub fn stage(&self, stage: &[i64; 5], moisture: i64, base: i64) -> (i64, i64) {
-        let [gas, excess, flue, co, _] = *stage;
+    pub fn stage(&self, stage: &Stage, moisture: i64, base: i64) -> (i64, i64) {
+        let Stage { gas, excess, flue, co, capacity } = *stage;
         let rise = flue - base;
         let dry = nearest(gas * self.dry_rate(excess), 100_000);
         let vapour = nearest(gas * self.vapour_rate(excess, moisture), 10_000);
-        let warm = nearest(dry * 1_384 * rise, 1_000_000) + nearest(vapour * 193 * rise, 1_000_000);
+        let warm = nearest(dry * capacity * rise, 1_000_000) + nearest(vapour * 193 * rise, 1_000_000);
         (warm, nearest(dry * co * 12_750, 1_000_000))
     }
 }

@@ -18,6 +18,7 @@ mod work;
 #[cfg(feature = "export")]
 mod export;
 
+pub use matter::Analysis;
 pub use print::KEYS;
 pub use work::{balance, Balance, HEATS};
 

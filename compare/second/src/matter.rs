@@ -1,5 +1,6 @@
-//! What it takes to warm things: tables A.1 and A.2 of the standard, as document 01 gives them.
+//! What it takes to warm things: tables A.1 and A.2 of the standard, as the documents give them.
 
+use crate::limits::{ALL_SHARES, MOST_ANALYSED};
 use crate::whole::nearest;
 
 /// Specific heats are in 1e-7 kJ/(kg °C) here: the finest coefficient, 4.18e-4 at a tenth of a degree, is a whole number of them.
@@ -112,9 +113,62 @@ pub fn fuel_heat(gas: i64, mixture: (i64, i64), fuel: i64, base: i64) -> i64 {
     nearest(gas * (mixture.0 + mixture.1 * fuel) * (fuel - base), 1_000_000_000)
 }
 
+/// Table A.1 for CO, CO2, O2 and N2, a row for each 100 °C from 0 to 1,000: 0.001 kJ/(m³ °C).
+const FLUE_GASES: [[i64; 4]; 11] = [
+    [1300, 1597, 1304, 1296],
+    [1301, 1697, 1317, 1300],
+    [1308, 1793, 1333, 1301],
+    [1317, 1877, 1354, 1304],
+    [1329, 1923, 1375, 1317],
+    [1342, 1998, 1396, 1325],
+    [1359, 2052, 1414, 1338],
+    [1372, 2098, 1434, 1354],
+    [1388, 2140, 1450, 1367],
+    [1400, 2178, 1463, 1379],
+    [1413, 2215, 1476, 1392],
+];
+
+/// What dry flue consists of besides nitrogen, in hundredths of a percent.
+#[derive(Clone, Copy)]
+pub struct Analysis {
+    pub co: i64,
+    /// CO2 with SO2, which are taken for CO2.
+    pub pair: i64,
+    pub o2: i64,
+}
+
+impl Analysis {
+    /// True where there is too much of the three together.
+    #[inline]
+    pub fn surpasses(self) -> bool {
+        self.co + self.pair + self.o2 > MOST_ANALYSED
+    }
+
+    /// Formula 4 for the dry flue at so many tenths of a degree, in 1e-10 kJ/(m³ °C). At 1,000.0 the way to the last row is all gone.
+    #[inline]
+    pub fn mixture(self, flue: i64) -> i64 {
+        let Analysis { co, pair, o2 } = self;
+        let shares = [co, pair, o2, ALL_SHARES - co - pair - o2];
+        let row = (flue / 1_000).min(9);
+        let way = flue - 1_000 * row;
+        let (cold, warm) = (FLUE_GASES[row as usize], FLUE_GASES[row as usize + 1]);
+        let mut sum = 0;
+        for (gas, share) in shares.iter().enumerate() {
+            sum += share * (1_000 * cold[gas] + way * (warm[gas] - cold[gas]));
+        }
+        sum
+    }
+
+    /// The same in 0.001 kJ/(m³ °C), rounded once.
+    #[inline]
+    pub fn capacity(self, flue: i64) -> i64 {
+        nearest(self.mixture(flue), 10_000_000)
+    }
+}
+
 #[cfg(test)]
 mod tests {
-    use super::Stuff;
+    use super::{Analysis, Stuff, FLUE_GASES, GASES};
 
     #[test]
     fn marked_specific_heats() {
@@ -122,5 +176,28 @@ mod tests {
         assert_eq!(at(1, 6_200), 10_012_000);
         assert_eq!(at(3, 8_000), 11_240_000);
         assert_eq!(at(3, 8_001), 11_344_418);
+    }
+
+    #[test]
+    fn marked_flues() {
+        for (co, pair, o2, flue, before, after) in [
+            (0, 0, 0, 0, 12_960_000_000, 1_296),
+            (0, 1_050, 190, 8_200, 14_526_918_000, 1_453),
+            (50, 860, 420, 2_350, 13_484_542_000, 1_348),
+            (0, 2_500, 1_500, 10_000, 16_103_500_000, 1_610),
+            (0, 1_400, 0, 250, 13_425_000_000, 1_342),
+        ] {
+            let analysis = Analysis { co, pair, o2 };
+            assert_eq!((analysis.mixture(flue), analysis.capacity(flue)), (before, after));
+            assert!(!analysis.surpasses());
+        }
+    }
+
+    #[test]
+    fn the_flue_s_rows_begin_as_the_fuel_s() {
+        let [_, n2, co, o2, _, co2, ..] = GASES;
+        for (gas, (cold, warm)) in [co, co2, o2, n2].into_iter().enumerate() {
+            assert_eq!((FLUE_GASES[0][gas], FLUE_GASES[1][gas]), (cold, warm));
+        }
     }
 }

@@ -1,8 +1,8 @@
 //! From the sheet's lines to the joules of each heat, in one pass: a line's heats are added up as soon as it is read.
 
-use crate::flue::Burning;
+use crate::flue::{Burning, Stage, UNANALYSED};
 use crate::limits::*;
-use crate::matter::{fuel_heat, mixture, Stuff};
+use crate::matter::{fuel_heat, mixture, Analysis, Stuff};
 use crate::scan::Scan;
 use crate::surface::{loss, Section};
 use crate::whole::nearest;
@@ -70,10 +70,10 @@ pub fn balance(sheet: &[u8]) -> Result<Balance, Refused> {
     }
     let mut scan = Scan::new(sheet);
     let mut sums = Sums::default();
-    scan.line(b"sheet=", &SHEET)?;
+    let [edition] = scan.line(b"sheet=", &SHEET)?;
     let [firing] = scan.line(b"firing=", &FIRING)?;
     let load = load(&mut scan, &mut sums)?;
-    let stages = stages(&mut scan, &mut sums, &load)?;
+    let stages = stages(&mut scan, &mut sums, &load, edition)?;
     setters(&mut scan, &mut sums, &load)?;
     parts(&mut scan, &mut sums, &load)?;
     let all_read = walls(&mut scan, &mut sums, &stages)?;
@@ -110,18 +110,36 @@ fn load(scan: &mut Scan, sums: &mut Sums) -> Result<Load, Refused> {
 }
 
 #[inline]
-fn stages(scan: &mut Scan, sums: &mut Sums, load: &Load) -> Result<Stages, Refused> {
+fn stages(scan: &mut Scan, sums: &mut Sums, load: &Load, edition: i64) -> Result<Stages, Refused> {
     let [count] = scan.line(b"stages=", &STAGES)?;
     let mut stages = Stages { count: count as usize, gas: 0, minutes: [0; MOST_STAGES] };
     for minutes in &mut stages.minutes[..count as usize] {
-        let stage = scan.line(b"stage=", &STAGE)?;
+        let (stage, lasted) = if edition == 1 { stage(scan) } else { analysed_stage(scan) }?;
         let (warm, unburnt) = load.burning.stage(&stage, load.moisture, load.base);
         sums.x7 += warm;
         sums.x8 += unburnt;
-        stages.gas += stage[0];
-        *minutes = stage[4];
+        stages.gas += stage.gas;
+        *minutes = lasted;
     }
     Ok(stages)
+}
+
+/// The next stage of sheet 1, and its minutes.
+#[inline]
+fn stage(scan: &mut Scan) -> Result<(Stage, i64), Refused> {
+    let [gas, excess, flue, co, minutes] = scan.line(b"stage=", &STAGE)?;
+    Ok((Stage { gas, excess, flue, co, capacity: UNANALYSED }, minutes))
+}
+
+/// The next stage of sheet 2, and its minutes.
+#[inline]
+fn analysed_stage(scan: &mut Scan) -> Result<(Stage, i64), Refused> {
+    let [gas, excess, flue, co, pair, o2, minutes] = scan.line(b"stage=", &ANALYSED_STAGE)?;
+    let analysis = Analysis { co, pair, o2 };
+    if analysis.surpasses() {
+        return Err(scan.refuse(14));
+    }
+    Ok((Stage { gas, excess, flue, co, capacity: analysis.capacity(flue) }, minutes))
 }
 
 #[inline]

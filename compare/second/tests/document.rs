@@ -9,12 +9,22 @@ const WORKED: &str = include_str!("../../../examples/worked.sheet");
 const REPORT: &str = "firing=7\nq1=7000000\nq2=0\nq3=0\nq5=0\nq8=0\nin=7000000\nx1=1200000\nx2=287600\nx3=544000\nx5=600000\n\
     x7=2593943\nx8=0\nx9=152300\nx10=1201440\nx11=420717\nuseful=2049278\nwithset=2649278\neff1=2928\neff2=3785\n";
 
-/// The refusal, line and field for the worked sheet with this part of it changed.
-fn changed(from: &str, to: &str) -> (u32, u32, u32) {
-    assert!(WORKED.contains(from), "{from}");
-    let said = answer(WORKED.replace(from, to).as_bytes(), &mut [0; 400]);
+/// The worked sheet as one of sheet 2, with what the analyser read.
+fn analysed() -> String {
+    WORKED.replace("sheet=1", "sheet=2").replace("8200,0,600", "8200,0,1050,190,600")
+}
+
+/// The refusal, line and field for a sheet with this part of it changed.
+fn changed_in(sheet: &str, from: &str, to: &str) -> (u32, u32, u32) {
+    assert!(sheet.contains(from), "{from}");
+    let said = answer(sheet.replace(from, to).as_bytes(), &mut [0; 400]);
     assert!((said.refusal == 0) == (said.length > 0));
     (said.refusal, said.line, said.field)
+}
+
+/// The same for the worked sheet.
+fn changed(from: &str, to: &str) -> (u32, u32, u32) {
+    changed_in(WORKED, from, to)
 }
 
 #[test]
@@ -24,6 +34,36 @@ fn the_worked_firing() {
     assert_eq!(said, Answer { refusal: 0, line: 0, field: 0, length: REPORT.len() });
     assert_eq!(&room[..REPORT.len()], REPORT.as_bytes());
     assert!(room[REPORT.len()..].iter().all(|&byte| byte == b'#'));
+}
+
+/// x7 by the flue's own specific heat, and x11 by x7; nothing else.
+#[test]
+fn the_worked_firing_analysed() {
+    let mut room = [b'#'; 400];
+    let said = answer(analysed().as_bytes(), &mut room);
+    let due = REPORT.replace("x7=2593943", "x7=2698522").replace("x11=420717", "x11=316137");
+    assert_eq!(std::str::from_utf8(&room[..said.length]), Ok(&due[..]));
+    assert_eq!(balance(analysed().as_bytes()).unwrap().heats[10], 2_698_522_258);
+}
+
+#[test]
+fn the_edges_of_sheet_2() {
+    let read = |analysis| changed_in(&analysed(), "0,1050,190,600", analysis);
+    assert_eq!(read("0,2000,2000,600"), (0, 0, 0));
+    assert_eq!(read("0,2000,2001,600"), (14, 12, 0));
+    assert_eq!(read("1000,1500,1501,600"), (14, 12, 0));
+    assert_eq!(read("0,2501,0,600"), (3, 12, 5));
+    assert_eq!(read("0,0,2101,600"), (3, 12, 6));
+    assert_eq!(read("1000,2500,2100,0"), (3, 12, 7));
+    assert_eq!(read("1000,2500,2100,600"), (14, 12, 0));
+    assert_eq!(read("0,1050,,600"), (12, 12, 6));
+    assert_eq!(read("0,600"), (2, 12, 0));
+    assert_eq!(changed("0,600", "0,1050,190,600"), (2, 12, 0));
+    let flue = |tenths| changed_in(&analysed(), "8200,0", tenths);
+    assert_eq!((flue("10000,0"), flue("10001,0")), ((0, 0, 0), (3, 12, 3)));
+    assert_eq!(changed_in(&analysed(), "500,2200", "500,12000"), (0, 0, 0));
+    assert_eq!(changed_in(&analysed(), "sheet=2", "sheet=3"), (3, 1, 1));
+    assert_eq!(changed("sheet=1", "sheet=0"), (3, 1, 1));
 }
 
 #[test]
