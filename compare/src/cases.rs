@@ -1,8 +1,9 @@
 //! The sheets that are compared: which kinds there are, how often each comes, and in what room the report is written.
 
+use crate::bases::*;
 use crate::dice::Dice;
 use crate::draft::{fields, span, Draft};
-use crate::faults::{self, FAULTS, OF_WALLS, WHOLE};
+use crate::faults::{self, FAULTS, OF_STAGES, OF_WALLS, WHOLE};
 use crate::valid::{self, Pin, Style};
 use crate::{forms, halves, inner, streams};
 use second::limits::LONGEST;
@@ -30,7 +31,7 @@ struct Kind {
     make: Make,
 }
 
-const KINDS: [Kind; 27] = [
+const KINDS: [Kind; 29] = [
     Kind { name: "usual", often: 14, make: |_, _, dice| usual(dice).bytes() },
     Kind { name: "wild", often: 7, make: |_, _, dice| wild(dice).bytes() },
     Kind { name: "corner", often: 2, make: |_, _, dice| corner(dice).bytes() },
@@ -40,7 +41,7 @@ const KINDS: [Kind; 27] = [
     Kind { name: "beyond a limit", often: 3, make: beyond_limit },
     Kind { name: "one rule broken", often: 5, make: one_fault },
     Kind { name: "two rules broken", often: 5, make: two_faults },
-    Kind { name: "faults in a line", often: 2, make: |_, step, dice| faults::in_a_line(small(dice), step, dice) },
+    Kind { name: "faults in a line", often: 2, make: |_, step, dice| faults::in_a_line(SMALL[0](dice), step, dice) },
     Kind { name: "number form", often: 4, make: number_form },
     Kind { name: "torn", often: 2, make: torn },
     Kind { name: "lines", often: 2, make: lines },
@@ -56,9 +57,15 @@ const KINDS: [Kind; 27] = [
     Kind { name: "damaged", often: 0, make: damaged },
     Kind { name: "grown", often: 0, make: |_, step, _| streams::grown(step).bytes() },
     Kind { name: "hostile", often: 0, make: |_, step, _| streams::hostile(step).1 },
-    Kind { name: "typical", often: 0, make: |_, _, dice| streams::typical(dice).bytes() },
-    Kind { name: "wide", often: 0, make: |_, _, dice| streams::wide(dice).bytes() },
+    Kind { name: TYPICAL, often: 0, make: |_, _, dice| streams::typical(dice).bytes() },
+    Kind { name: WIDE, often: 0, make: |_, _, dice| streams::wide(dice).bytes() },
+    Kind { name: "typical analysed", often: 0, make: |source, step, _| source.analysed(TYPICAL, streams::typical, step) },
+    Kind { name: "wide analysed", often: 0, make: |source, step, _| source.analysed(WIDE, streams::wide, step) },
 ];
+
+/// The streams of sheet 1, of which each firing comes on sheet 2 too.
+const TYPICAL: &str = "typical";
+const WIDE: &str = "wide";
 
 /// The name of all kinds together, in the turns of the wheel.
 const MADE: &str = "made";
@@ -117,15 +124,27 @@ impl Source {
         if kind == MADE {
             return Some(self.case(step).sheet);
         }
-        let place = KINDS.iter().position(|other| other.name == kind)?;
+        let place = place(kind)?;
         Some((KINDS[place].make)(self, step, &mut Dice::new(self.seed, place as u64, step)))
     }
 
+    /// The same firing as in a stream of this name, on sheet 2.
+    fn analysed(&self, stream: &str, make: Base, step: u64) -> Vec<u8> {
+        let mut dice = Dice::new(self.seed, place(stream).expect("a kind") as u64, step);
+        let mut draft = make(&mut dice);
+        draft.analyse(&mut dice);
+        draft.bytes()
+    }
+
     /// A sheet that several cases start from.
-    fn base(&self, purpose: &str, step: u64, make: fn(&mut Dice) -> Draft) -> Draft {
+    fn base(&self, purpose: &str, step: u64, make: Base) -> Draft {
         let name = purpose.bytes().fold(0, |sum: u64, byte| sum * 256 + u64::from(byte));
         make(&mut Dice::new(self.seed, name, step))
     }
+}
+
+fn place(kind: &str) -> Option<usize> {
+    KINDS.iter().position(|other| other.name == kind)
 }
 
 /// The names of all kinds.
@@ -155,44 +174,6 @@ fn room(sheet: &[u8], dice: &mut Dice) -> usize {
     }
 }
 
-fn usual(dice: &mut Dice) -> Draft {
-    let size = valid::usual_size(dice);
-    valid::draft(dice, Style::Plain, size, None)
-}
-
-fn wild(dice: &mut Dice) -> Draft {
-    let size = valid::usual_size(dice);
-    valid::draft(dice, Style::Wild, size, None)
-}
-
-fn least(dice: &mut Dice) -> Draft {
-    let style = dice.pick(&[Style::Plain, Style::Wild]);
-    valid::draft(dice, style, valid::least_size(), None)
-}
-
-fn of_any_size(dice: &mut Dice) -> Draft {
-    let size = if dice.once_in(2) { valid::largest_size(dice) } else { valid::any_size(dice) };
-    let style = dice.pick(&[Style::Plain, Style::Wild, Style::Wild]);
-    valid::draft(dice, style, size, None)
-}
-
-/// All numbers as great or small as they can be: what is too great for a word of the processor shows here.
-fn corner(dice: &mut Dice) -> Draft {
-    let greatest = dice.bits();
-    let style = Style::Corner(dice.pick(&[greatest, greatest, greatest, greatest, greatest, greatest, 0, u64::MAX]));
-    let size = if dice.once_in(3) { valid::any_size(dice) } else { valid::usual_size(dice) };
-    valid::draft(dice, style, size, None)
-}
-
-fn any(dice: &mut Dice) -> Draft {
-    match dice.below(16) {
-        0..=9 => usual(dice),
-        10..=12 => wild(dice),
-        13 => of_any_size(dice),
-        _ => least(dice),
-    }
-}
-
 /// The step's field, and what has gone through all fields before.
 fn turn(step: u64) -> ((usize, usize), u64) {
     let all: Vec<_> = fields().collect();
@@ -218,19 +199,16 @@ fn beyond_limit(_: &Source, step: u64, dice: &mut Dice) -> Vec<u8> {
     valid::draft(dice, Style::Plain, size, Some(Pin { key, field, value })).bytes()
 }
 
-/// One sheet, with each field in turn at its limits and one beyond them, in the first line of its kind and in the last: a block's
-/// first and last line may be judged apart. What else the number breaks is not looked at.
+/// One sheet of each edition, with each field in turn at its limits and one beyond them, in the first line of its kind and in the last: a
+/// block's first and last line may be judged apart. What else the number breaks is not looked at.
 fn beside_limit(source: &Source, step: u64, _: &mut Dice) -> Vec<u8> {
-    let mut draft = source.base("beside", 0, two_of_each);
-    let ends = draft.ends();
-    let (place, field) = ends[step as usize % ends.len()];
+    let both = TWO_OF_EACH.map(|make| source.base("beside", 0, make));
+    let ends: Vec<_> = both.iter().flat_map(|draft| draft.ends().into_iter().map(move |end| (draft, end))).collect();
+    let (draft, (place, field)) = ends[step as usize % ends.len()];
+    let mut draft = draft.clone();
     let (least, greatest) = span(draft.rows[place].key, field);
     draft.rows[place].values[field] = [least - 1, least, greatest, greatest + 1][step as usize / ends.len() % 4];
     draft.bytes()
-}
-
-fn two_of_each(dice: &mut Dice) -> Draft {
-    valid::draft(dice, Style::Plain, valid::Size { stages: 2, setters: 2, parts: 2, sections: 2 }, None)
 }
 
 fn one_fault(_: &Source, step: u64, dice: &mut Dice) -> Vec<u8> {
@@ -239,11 +217,11 @@ fn one_fault(_: &Source, step: u64, dice: &mut Dice) -> Vec<u8> {
     draft.bytes()
 }
 
-/// Two or three faults: anywhere, in wall lines, in one row, of the whole sheet, or of bytes and numbers together.
+/// Two or three faults: anywhere, in wall lines, in stage lines, in one row, of the whole sheet, or of bytes and numbers together.
 fn two_faults(_: &Source, step: u64, dice: &mut Dice) -> Vec<u8> {
     let mut draft = any(dice);
-    let sets: [&[faults::Fault]; 3] = [&FAULTS, &OF_WALLS, &WHOLE];
-    let set = sets[(step % 3) as usize];
+    let sets: [&[faults::Fault]; 4] = [&FAULTS, &OF_WALLS, &WHOLE, &OF_STAGES];
+    let set = sets[(step % 4) as usize];
     for _ in 0..dice.pick(&[1, 2, 2, 3]) {
         dice.pick(set)(&mut draft, dice);
     }
@@ -272,7 +250,7 @@ fn any_form(sheet: &mut Vec<u8>, dice: &mut Dice) {
 
 /// Every form of a number in every field of a small sheet, one after the other.
 fn number_form(source: &Source, step: u64, dice: &mut Dice) -> Vec<u8> {
-    let mut sheet = source.base("form", step / 4096, small).bytes();
+    let mut sheet = source.base("form", step / 4096, small(step / 4096)).bytes();
     let form = (step % forms::NUMBER_FORMS as u64) as usize;
     let field = step as usize / forms::NUMBER_FORMS % forms::field_count(&sheet);
     forms::number(&mut sheet, field, form);
@@ -282,13 +260,8 @@ fn number_form(source: &Source, step: u64, dice: &mut Dice) -> Vec<u8> {
     sheet
 }
 
-/// A sheet with a line of each kind and no more.
-fn small(dice: &mut Dice) -> Draft {
-    valid::draft(dice, Style::Plain, valid::Size { stages: 1, setters: 1, parts: 1, sections: 1 }, None)
-}
-
 fn torn(source: &Source, step: u64, dice: &mut Dice) -> Vec<u8> {
-    let mut sheet = source.base("torn", step / TEARS, small).bytes();
+    let mut sheet = source.base("torn", step / TEARS, small(step / TEARS)).bytes();
     let mut length = (step % TEARS) as usize;
     if length > sheet.len() {
         sheet = any(dice).bytes();
@@ -298,11 +271,16 @@ fn torn(source: &Source, step: u64, dice: &mut Dice) -> Vec<u8> {
     sheet
 }
 
-/// A small sheet without one of its bytes, each in turn.
+/// A small sheet without one of its bytes, each in turn, of edition 1 and then of edition 2.
 fn byte_gone(source: &Source, step: u64, _: &mut Dice) -> Vec<u8> {
-    let mut sheet = source.base("gone", 0, small).bytes();
-    sheet.remove(step as usize % sheet.len());
-    sheet
+    let [mut one, mut two] = SMALL.map(|make| source.base("gone", 0, make).bytes());
+    let at = step as usize % (one.len() + two.len());
+    if at < one.len() {
+        one.remove(at);
+        return one;
+    }
+    two.remove(at - one.len());
+    two
 }
 
 fn lines(_: &Source, step: u64, dice: &mut Dice) -> Vec<u8> {
@@ -344,5 +322,34 @@ fn example(source: &Source, step: u64, dice: &mut Dice) -> Vec<u8> {
     match source.examples.get((step % 64) as usize) {
         Some(sheet) => sheet.clone(),
         None => usual(dice).bytes(),
+    }
+}
+
+#[cfg(test)]
+mod tests {
+    use super::*;
+
+    /// At least half of the made sheets are sheet 1, as before T-03, and a quarter are sheet 2, so that both are compared in earnest.
+    #[test]
+    fn both_editions_are_made() {
+        let source = Source::new(1, Vec::new());
+        let count = 64 * 200;
+        let begin = |line: &[u8]| (0..count).filter(|&number| source.case(number).sheet.starts_with(line)).count() as u64;
+        let (one, two) = (begin(b"sheet=1\n"), begin(b"sheet=2\n"));
+        assert!(2 * one >= count && 4 * two >= count, "{one} and {two} of {count}");
+    }
+
+    /// A firing of a stream comes on both sheets with the same lines but for the stages.
+    #[test]
+    fn streams_have_their_twins() {
+        let source = Source::new(1, Vec::new());
+        for step in 0..100 {
+            for (kind, twin) in [(TYPICAL, "typical analysed"), (WIDE, "wide analysed")] {
+                let [one, two] = [kind, twin].map(|kind| source.sheet(kind, step).expect("a kind"));
+                assert!(second::balance(&two).is_ok(), "{kind} {step}");
+                let rest = |sheet: &[u8]| sheet.split(|&byte| byte == b'\n').skip(1).filter(|line| !line.starts_with(b"stage=")).count();
+                assert_eq!(rest(&one), rest(&two));
+            }
+        }
     }
 }

@@ -1,5 +1,6 @@
 //! A sheet as rows of numbers, before it becomes bytes.
 
+use crate::dice::Dice;
 use second::limits::{Span, LINES, PART_MATERIAL, SETTER_MATERIAL, WARE_MATERIAL};
 use std::io::Write;
 
@@ -18,21 +19,38 @@ pub const WATER: Key = 8;
 pub const CLAY: Key = 9;
 pub const STAGES: Key = 10;
 pub const STAGE: Key = 11;
-pub const SETTERS: Key = 12;
-pub const SETTER: Key = 13;
-pub const PARTS: Key = 14;
-pub const PART: Key = 15;
-pub const SECTIONS: Key = 16;
-pub const SECTION: Key = 17;
-pub const WALLS: Key = 18;
-pub const WALL: Key = 19;
-pub const END: Key = 20;
+/// A stage of sheet 2.
+pub const ANALYSED: Key = 12;
+pub const SETTERS: Key = 13;
+pub const SETTER: Key = 14;
+pub const PARTS: Key = 15;
+pub const PART: Key = 16;
+pub const SECTIONS: Key = 17;
+pub const SECTION: Key = 18;
+pub const WALLS: Key = 19;
+pub const WALL: Key = 20;
+pub const END: Key = 21;
 
 /// One line.
 #[derive(Clone)]
 pub struct Row {
     pub key: Key,
     pub values: Vec<i64>,
+}
+
+impl Row {
+    /// Makes a stage of sheet 1 one of sheet 2, with some analysis. It is no hotter then than table A.1.
+    pub fn analyse(&mut self, dice: &mut Dice) {
+        self.key = ANALYSED;
+        self.values[2] = self.values[2].min(span(ANALYSED, 2).1);
+        self.values.splice(4..4, [dice.between(200, 1_400), dice.between(50, 1_600)]);
+    }
+
+    /// Makes a stage of sheet 2 one of sheet 1.
+    pub fn forget(&mut self) {
+        self.key = STAGE;
+        self.values.drain(4..6);
+    }
 }
 
 /// A whole sheet. Nothing keeps its rows from breaking rules: that is what most of them are for.
@@ -74,6 +92,26 @@ pub fn pairs() -> impl Iterator<Item = (Key, usize, usize)> {
 impl Draft {
     pub fn add(&mut self, key: Key, values: &[i64]) {
         self.rows.push(Row { key, values: values.to_vec() });
+    }
+
+    /// Makes it a sheet 2.
+    pub fn analyse(&mut self, dice: &mut Dice) {
+        self.first(SHEET)[0] = 2;
+        self.rows.iter_mut().filter(|row| row.key == STAGE).for_each(|row| row.analyse(dice));
+    }
+
+    /// The kind of its stages. A fault may have changed the sheet's number, or some of the stages.
+    pub fn stage(&self) -> Key {
+        if self.rows.iter().any(|row| row.key == ANALYSED) {
+            ANALYSED
+        } else {
+            STAGE
+        }
+    }
+
+    /// Where its stages stand, of whichever kind.
+    pub fn stages(&self) -> Vec<usize> {
+        (0..self.rows.len()).filter(|&place| matches!(self.rows[place].key, STAGE | ANALYSED)).collect()
     }
 
     /// Where the rows of this kind stand.

@@ -1,13 +1,14 @@
-//! Sheets in which one number or row breaks a rule of document 01, refusals 3 to 10, or one line several.
+//! Sheets in which one number or row breaks a rule of the documents, refusals 3 to 10 and 14, or one line several.
 
 use crate::dice::Dice;
 use crate::draft::*;
 use crate::forms;
+use second::limits::MOST_ANALYSED;
 
 /// Makes a sheet break a rule. What the sheet breaks besides is not looked at: the comparison does that.
 pub type Fault = fn(&mut Draft, &mut Dice);
 
-pub const FAULTS: [Fault; 14] = [
+pub const FAULTS: [Fault; 16] = [
     range,
     far_range,
     material,
@@ -22,6 +23,8 @@ pub const FAULTS: [Fault; 14] = [
     colder,
     little_gas,
     much_gas,
+    analysis,
+    other_edition,
 ];
 
 /// The faults that belong to the whole sheet: they come last, in an order of their own.
@@ -30,6 +33,9 @@ pub const WHOLE: [Fault; 4] = [not_read, too_many_places, little_gas, much_gas];
 /// The faults of wall lines, of which one line can have several.
 pub const OF_WALLS: [Fault; 5] = [wall_of_no_section, wall_of_no_stage, read_twice, colder, range_of_wall];
 
+/// The faults of stage lines, of which one line can have several.
+pub const OF_STAGES: [Fault; 4] = [analysis, analysis, range_of_stage, other_edition];
+
 fn any_row(draft: &Draft, dice: &mut Dice) -> usize {
     dice.below(draft.rows.len())
 }
@@ -37,6 +43,11 @@ fn any_row(draft: &Draft, dice: &mut Dice) -> usize {
 /// A field one beyond a limit.
 fn range(draft: &mut Draft, dice: &mut Dice) {
     let place = any_row(draft, dice);
+    beyond(draft, dice, place);
+}
+
+fn range_of_stage(draft: &mut Draft, dice: &mut Dice) {
+    let place = dice.pick(&draft.stages());
     beyond(draft, dice, place);
 }
 
@@ -133,7 +144,7 @@ fn wall_of_no_section(draft: &mut Draft, dice: &mut Dice) {
 
 /// A stage above the sheet's own, which a sheet of 12 stages can't have without leaving the limits.
 fn wall_of_no_stage(draft: &mut Draft, dice: &mut Dice) {
-    let stages = draft.places(STAGE).len() as i64;
+    let stages = draft.stages().len() as i64;
     if let Some(wall) = some_wall(draft, dice) {
         wall[1] = dice.pick(&[stages + 1, 12, 13, stages + 2]);
     }
@@ -195,7 +206,7 @@ fn colder(draft: &mut Draft, dice: &mut Dice) {
 }
 
 fn set_gas(draft: &mut Draft, total: i64, dice: &mut Dice) {
-    let places = draft.places(STAGE);
+    let places = draft.stages();
     let mut rest = total;
     for (count, &place) in places.iter().enumerate() {
         let last = count + 1 == places.len();
@@ -216,11 +227,38 @@ fn much_gas(draft: &mut Draft, dice: &mut Dice) {
     set_gas(draft, total, dice);
 }
 
+/// A sheet 2 whose analyser has read one too much of all three in a stage, or just as much as can be, or far more.
+fn analysis(draft: &mut Draft, dice: &mut Dice) {
+    draft.analyse(dice);
+    let place = dice.pick(&draft.places(ANALYSED));
+    let all = MOST_ANALYSED + dice.pick(&[1, 1, 1, 0, 1_000, 1_600]);
+    let most = [3, 4, 5].map(|field| span(ANALYSED, field).1);
+    let co = dice.between((all - most[1] - most[2]).max(0), most[0]);
+    let pair = dice.between(all - co - most[2], most[1].min(all - co));
+    draft.rows[place].values[3..6].copy_from_slice(&[co, pair, all - co - pair]);
+}
+
+/// A sheet with the other sheet's number, or one of its stages as the other sheet has them.
+fn other_edition(draft: &mut Draft, dice: &mut Dice) {
+    let place = dice.pick(&draft.stages());
+    let row = &mut draft.rows[place];
+    if dice.once_in(2) {
+        draft.first(SHEET)[0] = if row.key == STAGE { 2 } else { 1 };
+    } else if row.key == STAGE {
+        row.analyse(dice);
+    } else {
+        row.forget();
+    }
+}
+
 /// Two or three faults in one line: a range and a form in every pair of a line's fields in turn, and every other time a form, a range or a
-/// fault of the whole line besides.
+/// fault of the whole line besides. The draft is of sheet 1, and becomes a sheet 2 where the line is of that, or by chance.
 pub fn in_a_line(mut draft: Draft, step: u64, dice: &mut Dice) -> Vec<u8> {
     let pairs: Vec<_> = pairs().collect();
     let (key, ranged, formed) = pairs[step as usize % pairs.len()];
+    if key == ANALYSED || key != STAGE && dice.once_in(3) {
+        draft.analyse(dice);
+    }
     let place = dice.pick(&draft.places(key));
     beyond_in(&mut draft, dice, place, ranged);
     let third = dice.below(6);
@@ -250,16 +288,21 @@ mod tests {
     /// Each of 13, 2, 12 and 3 is met, 12 in every field of every line.
     #[test]
     fn faults_in_a_line_meet_every_field() {
-        let mut met = [0; 14];
+        let mut met = [0; 15];
         let mut boxes = std::collections::BTreeSet::new();
         for step in 0..20 * pairs().count() as u64 {
             let mut dice = Dice::new(1, 5, step);
-            let draft = valid::draft(&mut dice, Style::Plain, Size { stages: 1, setters: 1, parts: 1, sections: 1 }, None);
+            let draft = valid::draft_of(1, &mut dice, Style::Plain, Size { stages: 1, setters: 1, parts: 1, sections: 1 }, None);
             let kinds: Vec<Key> = draft.rows.iter().map(|row| row.key).collect();
-            if let Err(refused) = second::balance(&in_a_line(draft, step, &mut dice)) {
+            let sheet = in_a_line(draft, step, &mut dice);
+            if let Err(refused) = second::balance(&sheet) {
                 met[refused.number as usize] += 1;
+                let kind = kinds.get(refused.line as usize - 1).map(|&kind| match kind {
+                    STAGE if sheet.starts_with(b"sheet=2") => ANALYSED,
+                    other => other,
+                });
                 if refused.number == 12 {
-                    boxes.insert((kinds[refused.line as usize - 1], refused.field as usize - 1));
+                    boxes.insert((kind.expect("a line of the sheet"), refused.field as usize - 1));
                 }
             }
         }

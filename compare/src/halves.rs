@@ -83,7 +83,7 @@ fn chill(draft: &mut Draft, dice: &mut Dice) {
             WARE => values[1..].copy_from_slice(&[dice.between(0, 200), dice.between(-200, -1), 0, dice.between(1, 9_999)]),
             WATER => (values[0], values[1]) = (0, 0),
             CLAY => values[0] = 0,
-            STAGE => (values[0], values[2]) = (dice.between(100, 200), dice.between(0, 200)),
+            STAGE | ANALYSED => (values[0], values[2]) = (dice.between(100, 200), dice.between(0, 200)),
             SETTER => values[1] = dice.between(0, 200),
             PART => (values[3], values[4]) = (dice.between(-200, 200), dice.between(-200, 200)),
             _ => {}
@@ -106,6 +106,7 @@ pub fn printed(step: u64, dice: &mut Dice) -> Draft {
     }
     let mut fields = Vec::new();
     for &(key, field) in knobs(heat, negative) {
+        let key = if key == STAGE { draft.stage() } else { key };
         fields.extend(draft.places(key).into_iter().map(|place| (place, field)));
     }
     tune(&mut draft, dice, &fields, |found| at_half(found, heat, more) && (found.heats[heat] < 0) == negative);
@@ -153,7 +154,8 @@ pub fn efficiency(step: u64, dice: &mut Dice) -> Draft {
     }
     draft.first(PRODUCT)[0] = 1_000;
     draft.first(FUEL)[0] = heating;
-    draft.first(STAGE)[0] = gas * times;
+    let stage = draft.stage();
+    draft.first(stage)[0] = gas * times;
     draft.first(CLAY)[0] = 0;
     draft.first(WATER)[..2].fill(0);
     let half = times * (2 * dice.between(-4_000 / times, 4_000 / times) + 1);

@@ -5,11 +5,12 @@
 use crate::dice::Dice;
 use crate::draft::*;
 use crate::halves::{edge, hundred};
+use second::Analysis;
 
 type Recipe = fn(&mut Draft, &mut Dice);
 
 /// Each with the heats of the report that show it: the sums `in` (5) and x11 (14), and its own where more than one record adds to it.
-const RECIPES: [(Recipe, &[usize]); 17] = [
+const RECIPES: [(Recipe, &[usize]); 18] = [
     (green_ware, &[5, 14]),
     (ware, &[14]),
     (waters, &[14]),
@@ -19,6 +20,7 @@ const RECIPES: [(Recipe, &[usize]); 17] = [
     (dry_volume, &[14]),
     (vapour_rate, &[14]),
     (vapour_mass, &[14]),
+    (flue_capacity, &[14]),
     (dry_heat, &[14]),
     (vapour_heat, &[14]),
     (unburnt, &[14]),
@@ -96,18 +98,27 @@ fn set_gas(draft: &mut Draft, shares: &[(usize, i64)]) {
     }
 }
 
-/// All gas in one stage, so that what is true of the stage is true of the firing.
-fn one_stage(draft: &mut Draft, stage: [i64; 5]) {
-    for place in draft.places(STAGE) {
+fn first_stage(draft: &mut Draft) -> &mut Vec<i64> {
+    let stage = draft.stage();
+    draft.first(stage)
+}
+
+/// All gas in one stage, so that what is true of the stage is true of the firing. What an analyser has read stays, and a flue that is too
+/// hot for sheet 2 is as hot as it may be.
+fn one_stage(draft: &mut Draft, [gas, excess, flue, co, minutes]: [i64; 5]) {
+    for place in draft.stages() {
         draft.rows[place].values[0] = 0;
     }
-    draft.set(STAGE, &stage);
+    let hottest = span(draft.stage(), 2).1;
+    let stage = first_stage(draft);
+    stage[..4].copy_from_slice(&[gas, excess, flue.min(hottest), co]);
+    *stage.last_mut().expect("the minutes") = minutes;
 }
 
 /// Methane: gas times tenths times 8 (195,375 + 11 T) over 100,000.
 fn fuel(draft: &mut Draft, dice: &mut Dice) {
     set_gas(draft, &[(6, 10_000)]);
-    let flue = draft.first(STAGE)[2];
+    let flue = first_stage(draft)[2];
     one_stage(draft, [6_250 * odd(dice, 1, 31), 1_100, flue, 0, 60]);
     let warm = 2 * dice.between(0, 300);
     draft.first(FUEL)[1] = warm;
@@ -160,7 +171,9 @@ fn methane(draft: &mut Draft, dice: &mut Dice, gas: i64, flue: i64, co: i64) {
 
 /// 62,500 of 125,000 are four times 5 and 3,125 tenths of a degree, or four times 125 and 125 tenths below the room's.
 fn dry_heat(draft: &mut Draft, dice: &mut Dice) {
-    if dice.once_in(2) {
+    if draft.stage() == ANALYSED {
+        nitrogen_heat(draft, dice);
+    } else if dice.once_in(2) {
         let flue = base(draft) + dice.pick(&[3_125, 9_375]);
         let gas = 5 * odd(dice, 21, 39_999);
         methane(draft, dice, gas, flue, 0);
@@ -172,8 +185,32 @@ fn dry_heat(draft: &mut Draft, dice: &mut Dice) {
     }
 }
 
+/// The like on sheet 2, where the flue is nitrogen: 1.304 at 300.0, which has as many twos as 1.384, and 1.297 at 25.0, which has none.
+fn nitrogen_heat(draft: &mut Draft, dice: &mut Dice) {
+    first_stage(draft)[4..6].fill(0);
+    let (base, flue, step, most) = dice.pick(&[(-125, 3_000, 5, 39_999), (375, 250, 1_000, 199)]);
+    draft.first(AMBIENT)[0] = base;
+    let gas = step * odd(dice, 21, most);
+    methane(draft, dice, gas, flue, 0);
+}
+
+/// A flue of sheet 2 whose four gases take up half of 0.001 more than a whole number. At a row of the table or a quarter of the way to
+/// the next one that is met soonest.
+fn flue_capacity(draft: &mut Draft, dice: &mut Dice) {
+    draft.analyse(dice);
+    let (mut read, mut flue) = (Analysis { co: 0, pair: 0, o2: 0 }, 0);
+    while read.surpasses() || read.mixture(flue) % 10_000_000 != 5_000_000 {
+        let [co, pair, o2] = [3, 4, 5].map(|field| span(ANALYSED, field)).map(|(least, greatest)| dice.between(least, greatest));
+        read = Analysis { co, pair, o2 };
+        flue = 250 * dice.between(0, 40);
+    }
+    let gas = dice.between(1_000, 200_000);
+    one_stage(draft, [gas, 1_100, flue, read.co, 60]);
+    first_stage(draft)[4..6].copy_from_slice(&[read.pair, read.o2]);
+}
+
 fn unburnt(draft: &mut Draft, dice: &mut Dice) {
-    let flue = draft.first(STAGE)[2];
+    let flue = first_stage(draft)[2];
     let (gas, co) = (5 * odd(dice, 21, 39_999), 100 * odd(dice, 1, 9));
     methane(draft, dice, gas, flue, co);
 }
@@ -201,8 +238,8 @@ fn wall(draft: &mut Draft, surface: i64, air: i64, area: i64, minutes: i64) {
             row.values[2] = area;
         }
     }
-    let stages = draft.places(STAGE);
-    draft.rows[stages[stage as usize - 1]].values[4] = minutes;
+    let place = draft.stages()[stage as usize - 1];
+    *draft.rows[place].values.last_mut().expect("the minutes") = minutes;
 }
 
 /// 454 (S^4 - R^4) is at a half of 1e9 where S and R are odd multiples of 25 but not of 125, and S^4 - R^4 has seven twos.

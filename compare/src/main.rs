@@ -1,8 +1,9 @@
-//! Compares the proved library with the second opinion: compare [--damage WAY] [--sample N] COUNT SEED HARNESS [WORD...]
-//! or with the library before a change: compare [--damage WAY] --same NAMES COUNT SEED HARNESS [WORD...]
+//! Compares the proved library with the second opinion: compare [--damage WAY] [--sample N] [--sheet-1] COUNT SEED HARNESS [WORD...]
+//! or with the library before a change: compare [--damage WAY] --same NAMES [--sheet-1] COUNT SEED HARNESS [WORD...]
 //!
 //! It is started at the top of the repository, by tools/compare, and by tools/same with a harness that has both libraries. The file NAMES has
-//! a name to a line, of sheets that are put to both before any is made. It ends with status 0 where nothing differs and every refusal was
+//! a name to a line, of sheets that are put to both before any is made. With --sheet-1 whatever is a sheet 2 is left out, for a library
+//! that has none. It ends with status 0 where nothing differs and every refusal was
 //! met, 1 where something differs or a refusal was not met, and 2 where it could not compare.
 
 use compare::cases::{self, Case, Source};
@@ -18,8 +19,13 @@ const PROGRAM: [&str; 2] = ["tools/run", "balance"];
 
 fn plan() -> Option<Plan> {
     let mut words: Vec<String> = env::args().skip(1).collect();
-    let mut plan = Plan { count: 0, seed: 0, harness: Vec::new(), against: Against::Second, damage: None, sample: 0 };
+    let mut plan = Plan { count: 0, seed: 0, harness: Vec::new(), against: Against::Second, sheet_1: false, damage: None, sample: 0 };
     while words.first()?.starts_with("--") {
+        if words[0] == "--sheet-1" {
+            plan.sheet_1 = true;
+            words.remove(0);
+            continue;
+        }
         let value = words.get(1)?.clone();
         match words[0].as_str() {
             "--damage" => plan.damage = Some(Damage::named(&value)?),
@@ -69,7 +75,7 @@ fn main() -> ExitCode {
     let plan = match plan() {
         Some(plan) => plan,
         None => {
-            eprintln!("compare [--damage WAY] [--sample N] [--same NAMES] COUNT SEED HARNESS [WORD...]");
+            eprintln!("compare [--damage WAY] [--sample N] [--same NAMES] [--sheet-1] COUNT SEED HARNESS [WORD...]");
             return ExitCode::from(2);
         }
     };

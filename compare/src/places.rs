@@ -3,6 +3,7 @@
 
 use crate::draft::*;
 use crate::inner::product;
+use second::Analysis;
 
 /// The fractions that are rounded, each with its place.
 #[derive(Default)]
@@ -53,11 +54,17 @@ impl Roundings {
         let dry = of([0, 1, 1, 0, 0, 1, 1, 2, 2, 3, 4, 1, 1]);
         let vapour = of([1, 0, 0, 0, 1, 0, 2, 2, 3, 4, 5, 1, 0]);
         let mut total = 0;
-        for [gas, excess, flue, co, _] in all(draft, STAGE) {
+        for place in draft.stages() {
+            let stage = &draft.rows[place].values;
+            let [gas, excess, flue, co] = [0, 1, 2, 3].map(|field| i128::from(stage[field]));
+            let capacity = match stage[..] {
+                [_, _, flue, co, pair, o2, _] => self.round("flue capacity", Analysis { co, pair, o2 }.mixture(flue).into(), 10_000_000),
+                _ => 1_384,
+            };
             let volume = self.round("dry volume", gas * (100_000 * dry + (excess - 210) * 238 * air), 100_000);
             let rate = self.round("vapour rate", 1_077_069 * excess * air * moisture + 2_812_500_000_000 * vapour, 35_000_000);
             let mass = self.round("vapour mass", gas * rate, 10_000);
-            self.round("dry heat", volume * 1_384 * (flue - base), 1_000_000);
+            self.round("dry heat", volume * capacity * (flue - base), 1_000_000);
             self.round("vapour heat", mass * 193 * (flue - base), 1_000_000);
             self.round("x8", volume * co * 12_750, 1_000_000);
             total += gas;
@@ -68,13 +75,13 @@ impl Roundings {
     }
 
     fn walls(&mut self, draft: &Draft) {
-        let stages: Vec<[i128; 5]> = all(draft, STAGE).collect();
+        let minutes = |stage: i128| draft.rows[draft.stages()[stage as usize - 1]].values.last().copied().expect("the minutes");
         for [number, stage, surface, air] in all(draft, WALL) {
             let [_, place, area] = all(draft, SECTION).find(|[other, _, _]| *other == number).expect("the reading's section");
             let product = product(place as usize, (surface - air) as i64);
             let carried = self.round("fourth root", product as i128, 1_000_000);
             let radiated = self.round("radiation", 454 * ((2_730 + surface).pow(4) - (2_730 + air).pow(4)), 1_000_000_000);
-            self.round("x9", (carried + radiated) * area * stages[stage as usize - 1][4] * 3, 500_000);
+            self.round("x9", (carried + radiated) * area * i128::from(minutes(stage)) * 3, 500_000);
         }
     }
 }
@@ -98,7 +105,7 @@ mod tests {
     /// How often each place is at a half: above zero beside an even number and an odd one, and below zero.
     fn met() -> BTreeMap<&'static str, [usize; 4]> {
         let mut met = BTreeMap::new();
-        for step in 0..17 * 200 {
+        for step in 0..18 * 200 {
             let draft = rounded(step, &mut Dice::new(1, 6, step));
             let mut roundings = Roundings::default();
             roundings.solids(&draft);
@@ -117,7 +124,7 @@ mod tests {
         let mut met = met();
         // The dividend of formula 33 is even, and its divisor 10. Of the product with the fourth root `inner` looks at all that there are.
         assert_eq!((met.remove("formula 33"), met.remove("fourth root")), (Some([0; 4]), Some([0; 4])));
-        assert_eq!(met.len(), 16, "{met:?}");
+        assert_eq!(met.len(), 17, "{met:?}");
         for (place, four) in &met {
             let below = matches!(*place, "q2" | "q3" | "q5" | "q8" | "x1" | "x5" | "x10" | "dry heat" | "vapour heat");
             assert!(four[..if below { 4 } else { 2 }].iter().all(|&count| count > 5), "{place}: {met:?}");

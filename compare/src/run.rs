@@ -44,13 +44,25 @@ pub struct Plan {
     pub seed: u64,
     pub harness: Vec<String>,
     pub against: Against,
+    /// Whether sheets 2 are left out.
+    pub sheet_1: bool,
     pub damage: Option<Damage>,
     /// How many sheets go through the program besides.
     pub sample: u64,
 }
 
 /// The refusals' numbers are below this.
-const REFUSALS: usize = 14;
+const REFUSALS: usize = 15;
+
+/// The refusal that only a sheet 2 meets.
+const OF_SHEET_2: usize = 14;
+
+impl Plan {
+    /// Whether this sheet is put at all.
+    fn puts(&self, case: &Case) -> bool {
+        !(self.sheet_1 && case.sheet.starts_with(b"sheet=2\n"))
+    }
+}
 
 /// What came of it.
 pub struct Outcome {
@@ -87,7 +99,7 @@ pub fn library(plan: &Plan, source: &Source, given: Vec<Case>) -> io::Result<Out
     let (mut child, requests, mut answers) = harness::start(&plan.harness)?;
     let (sent, batches) = sync_channel(AHEAD);
     let mut outcome = Outcome { met: [0; REFUSALS], kinds: BTreeMap::new(), seconds: 0.0, difference: None };
-    let cases = given.into_iter().chain((0..plan.count).map(|number| source.case(number)));
+    let cases = given.into_iter().chain((0..plan.count).map(|number| source.case(number))).filter(|case| plan.puts(case));
     thread::scope(|scope| {
         scope.spawn(move || send_all(cases, requests, sent));
         outcome.difference = receive_all(plan, batches, &mut answers, &mut outcome);
@@ -106,11 +118,11 @@ pub fn library(plan: &Plan, source: &Source, given: Vec<Case>) -> io::Result<Out
     Ok(outcome)
 }
 
-/// What is due for a sheet, and what the library did with it.
-fn receive(plan: &Plan, case: &Case, answers: &mut impl Read) -> io::Result<(Deed, Deed)> {
+/// What is due for a sheet, which is the harness's request of this number, and what the library did with it.
+fn receive(plan: &Plan, case: &Case, request: u64, answers: &mut impl Read) -> io::Result<(Deed, Deed)> {
     let deed = harness::receive(answers)?;
     let due = match plan.against {
-        Against::Second => due(case, case.number),
+        Against::Second => due(case, request),
         Against::Before(_) => harness::receive(answers)?,
     };
     Ok((due, deed))
@@ -118,9 +130,11 @@ fn receive(plan: &Plan, case: &Case, answers: &mut impl Read) -> io::Result<(Dee
 
 fn receive_all(plan: &Plan, batches: Receiver<Vec<Case>>, answers: &mut impl Read, outcome: &mut Outcome) -> Option<String> {
     let mut damage = plan.damage;
+    let mut requests = 0..;
     for batch in batches {
         for case in &batch {
-            let (mut due, deed) = match receive(plan, case, answers) {
+            let request = requests.next().expect("one more");
+            let (mut due, deed) = match receive(plan, case, request, answers) {
                 Ok(both) => both,
                 Err(error) => return Some(culprit(plan, &batch, case, &error)),
             };
@@ -171,7 +185,7 @@ fn alone(plan: &Plan, case: &Case) -> io::Result<()> {
     let (mut child, mut requests, mut answers) = harness::start(&plan.harness)?;
     harness::send(&mut requests, &vec![case.clone(); PLACES])?;
     drop(requests);
-    let answered = (0..PLACES).try_for_each(|_| receive(plan, case, &mut answers).map(drop));
+    let answered = (0..PLACES as u64).try_for_each(|request| receive(plan, case, request, &mut answers).map(drop));
     child.wait()?;
     answered
 }
@@ -180,6 +194,9 @@ fn alone(plan: &Plan, case: &Case) -> io::Result<()> {
 pub fn program(plan: &Plan, source: &Source, words: &[&str]) -> io::Result<Option<String>> {
     for place in 0..plan.sample {
         let case = source.case(place * plan.count / plan.sample);
+        if !plan.puts(&case) {
+            continue;
+        }
         let printed = balance::run(words, &case.sheet)?;
         let due = balance::due(&case.sheet);
         if printed != due {
@@ -220,7 +237,7 @@ impl Outcome {
             Against::Second => println!("{word}: {} of them through the program too; no difference", plan.sample),
             Against::Before(_) => println!("{word}: no difference"),
         }
-        let missed = self.met.iter().position(|&sheets| sheets == 0);
+        let missed = (0..REFUSALS).find(|&number| self.met[number] == 0 && !(plan.sheet_1 && number == OF_SHEET_2));
         if let Some(number) = missed {
             eprintln!("{word}: no sheet met {number}, so nothing is said about it");
         }

@@ -14,7 +14,7 @@ const GROWING: [(usize, usize, usize, usize); 8] =
 pub fn grown(step: u64) -> Draft {
     match GROWING.get(step as usize % (GROWING.len() + 1)) {
         Some(&(stages, setters, parts, sections)) => {
-            valid::draft(&mut Dice::new(7, 7, 7), Style::Plain, Size { stages, setters, parts, sections }, None)
+            valid::draft_of(1, &mut Dice::new(7, 7, 7), Style::Plain, Size { stages, setters, parts, sections }, None)
         }
         None => largest(),
     }
@@ -25,7 +25,7 @@ fn largest() -> Draft {
     let drafts = (0..300).map(|step| {
         let mut dice = Dice::new(8, 8, step);
         let size = valid::largest_size(&mut dice);
-        valid::draft(&mut dice, Style::Corner(u64::MAX), size, None)
+        valid::draft_of(1, &mut dice, Style::Corner(u64::MAX), size, None)
     });
     let accepted = drafts.filter(|draft| second::balance(&draft.bytes()).is_ok());
     accepted.max_by_key(|draft| draft.bytes().len()).expect("some are accepted")
@@ -68,13 +68,13 @@ fn size(dice: &mut Dice) -> Size {
 /// A firing as a volunteer would write it, of about 1,445 bytes.
 pub fn typical(dice: &mut Dice) -> Draft {
     let size = size(dice);
-    valid::draft(dice, Style::Plain, size, None)
+    valid::draft_of(1, dice, Style::Plain, size, None)
 }
 
 /// One as large with long numbers, and with every temperature below zero that can be.
 pub fn wide(dice: &mut Dice) -> Draft {
     let size = size(dice);
-    valid::draft(dice, Style::Wide, size, None)
+    valid::draft_of(1, dice, Style::Wide, size, None)
 }
 
 #[cfg(test)]

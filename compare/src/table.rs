@@ -1,6 +1,6 @@
 //! Document 01's table of lines as the fuzzer takes it, which is written in C: as a header, and as words for its engine.
 
-use crate::draft::{counts, material};
+use crate::draft::{counts, material, ANALYSED};
 use second::limits::{ALL_SHARES, LINES, LONGEST, TOTAL_GAS};
 use std::collections::BTreeSet;
 use std::fmt::Write;
@@ -34,7 +34,8 @@ static const struct form {
 /// The header, with the values of this example for lines that are missing somewhere.
 pub fn header(example: &str) -> String {
     let most = LINES.iter().map(|(_, spans)| spans.len()).max().expect("a line");
-    let kinds: Vec<String> = LINES.iter().map(|(key, _)| key.to_uppercase()).collect();
+    let name = |place: usize| if place == ANALYSED { "ANALYSED".to_string() } else { LINES[place].0.to_uppercase() };
+    let kinds: Vec<String> = (0..LINES.len()).map(name).collect();
     let numbers = [most as i64, LONGEST as i64, ALL_SHARES, TOTAL_GAS.0, TOTAL_GAS.1];
     let mut due = numbers.iter().map(i64::to_string).chain([kinds.join(", ")]);
     let mut text = String::new();
@@ -56,6 +57,7 @@ pub fn header(example: &str) -> String {
 pub fn words() -> String {
     let spans = LINES.iter().flat_map(|(_, spans)| spans.iter()).chain([&TOTAL_GAS]);
     let numbers: BTreeSet<i64> = spans.flat_map(|&(least, greatest)| [least - 1, least, greatest, greatest + 1]).collect();
-    let keys = LINES.iter().map(|(key, _)| format!("\"\\x0a{key}=\"\n"));
+    let keys: BTreeSet<&str> = LINES.iter().map(|(key, _)| *key).collect();
+    let keys = keys.iter().map(|key| format!("\"\\x0a{key}=\"\n"));
     keys.chain(numbers.iter().map(|number| format!("\"{number}\"\n"))).collect()
 }

@@ -2,7 +2,7 @@
 
 use crate::dice::Dice;
 use crate::draft::*;
-use second::limits::{Span, ALL_SHARES};
+use second::limits::{Span, ALL_SHARES, MOST_ANALYSED};
 
 /// How a sheet's numbers are drawn.
 #[derive(Clone, Copy, PartialEq)]
@@ -66,19 +66,40 @@ pub fn least_size() -> Size {
     Size { stages: 1, setters: 0, parts: 0, sections: 1 }
 }
 
-/// A valid sheet. A pin that no valid sheet can have gives a sheet that is valid but for the pin.
+/// A valid sheet of either edition. A pin that no valid sheet can have gives a sheet that is valid but for the pin.
 pub fn draft(dice: &mut Dice, style: Style, size: Size, pin: Option<Pin>) -> Draft {
+    let edition = edition(dice, style, pin);
+    draft_of(edition, dice, style, size, pin)
+}
+
+/// Two sheets in three are of edition 1, where nothing else says which.
+fn edition(dice: &mut Dice, style: Style, pin: Option<Pin>) -> i64 {
+    match (pin.map(|pin| (pin.key, pin.value)), style) {
+        (Some((SHEET, 1) | (STAGE, _)), _) => 1,
+        (Some((SHEET, 2) | (ANALYSED, _)), _) => 2,
+        (_, Style::Corner(greatest)) => 1 + (greatest & 1) as i64,
+        _ => 1 + i64::from(dice.once_in(3)),
+    }
+}
+
+/// The like of this edition.
+pub fn draft_of(edition: i64, dice: &mut Dice, style: Style, size: Size, pin: Option<Pin>) -> Draft {
     let size = pinned_size(dice, size, pin);
     let mut maker = Maker { dice, style, pin, draft: Draft::default() };
     for key in [SHEET, FIRING, PRODUCT, AMBIENT, FUEL] {
         maker.row(key);
+    }
+    // What the pin has put beyond the limits stays there.
+    let number = &mut maker.draft.first(SHEET)[0];
+    if (1..=2).contains(number) {
+        *number = edition;
     }
     maker.gas();
     maker.row(AIR);
     maker.stuff(WARE);
     maker.row(WATER);
     maker.row(CLAY);
-    maker.stages(size.stages);
+    maker.stages(if edition == 1 { STAGE } else { ANALYSED }, size.stages);
     maker.count(SETTERS, size.setters);
     (0..size.setters).for_each(|_| maker.stuff(SETTER));
     maker.count(PARTS, size.parts);
@@ -245,10 +266,10 @@ impl Maker<'_> {
         shares
     }
 
-    /// Stages whose gas is inside its limits together.
-    fn stages(&mut self, stages: usize) {
+    /// Stages of this kind, whose gas is inside its limits together.
+    fn stages(&mut self, kind: Key, stages: usize) {
         self.count(STAGES, stages);
-        let first = self.pin.filter(|pin| pin.key == STAGE && pin.field == 0).map(|pin| pin.value);
+        let first = self.pin.filter(|pin| pin.key == kind && pin.field == 0).map(|pin| pin.value);
         let total = match self.style {
             Style::Plain => self.dice.between(1_000, 60_000),
             Style::Wild => self.dice.wild((100, 200_000)),
@@ -258,7 +279,11 @@ impl Maker<'_> {
         let total = total.max(first.unwrap_or(0)).min(200_000);
         let mut rest = total;
         for stage in 0..stages {
-            let mut values = self.values(STAGE);
+            let pin = self.pin.filter(|pin| pin.key == ANALYSED).map(|pin| pin.field);
+            let mut values = self.values(kind);
+            if kind == ANALYSED {
+                self.bound(&mut values, pin);
+            }
             if stage > 0 || first.is_none() {
                 values[0] = match self.style {
                     _ if stage + 1 == stages => rest,
@@ -267,8 +292,19 @@ impl Maker<'_> {
                 };
             }
             rest -= values[0].max(0).min(rest);
-            self.draft.add(STAGE, &values);
+            self.draft.add(kind, &values);
         }
+    }
+
+    /// Takes from CO2 with SO2 or from O2, and not from what is pinned, what the analyser has read too much of all three.
+    fn bound(&mut self, values: &mut [i64], pinned: Option<usize>) {
+        let surplus = values[3..6].iter().sum::<i64>() - MOST_ANALYSED;
+        let oxygen = match pinned {
+            Some(4) => true,
+            Some(5) => false,
+            _ => self.dice.once_in(2),
+        };
+        values[if oxygen { 5 } else { 4 }] -= surplus.max(0);
     }
 
     /// Sections, and a reading of each in each stage, in any order.
@@ -340,10 +376,13 @@ fn plain(key: Key, field: usize) -> Option<(i64, i64)> {
         (WATER, 0) | (WATER, 1) => (0, 12_000),
         (WATER, 2) => (800, 5_000),
         (CLAY, 0) => (0, 80_000),
-        (STAGE, 1) => (1_000, 3_200),
+        (STAGE, 1) | (ANALYSED, 1) => (1_000, 3_200),
         (STAGE, 2) => (900, 11_500),
-        (STAGE, 3) => (0, 400),
-        (STAGE, 4) => (30, 1_000),
+        (ANALYSED, 2) => (900, 9_800),
+        (STAGE, 3) | (ANALYSED, 3) => (0, 400),
+        (ANALYSED, 4) => (200, 1_400),
+        (ANALYSED, 5) => (50, 1_600),
+        (STAGE, 4) | (ANALYSED, 6) => (30, 1_000),
         (SETTER, 0) => (0, 40_000),
         (PART, 0) => (500, 600_000),
         (PART, 3) => (50, 2_500),
