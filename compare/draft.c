@@ -5,9 +5,14 @@
 #include <stdlib.h>
 #include <string.h>
 
+enum kind count_of(enum kind kind)
+{
+    return kind == ANALYSED ? STAGES : kind - 1;
+}
+
 bool counted(enum kind kind)
 {
-    return kind > SHEET && forms[kind - 1].counts;
+    return kind > SHEET && forms[count_of(kind)].counts;
 }
 
 long bounded(long value)
@@ -16,12 +21,23 @@ long bounded(long value)
     return value < -most ? -most : value > most ? most : value;
 }
 
+/* A stage of sheet 2 has the key of one of sheet 1, and more fields. */
+static bool analysed(const char *line)
+{
+    size_t fields = 1;
+    for (; *line; line++)
+        fields += *line == ',';
+    return fields >= forms[ANALYSED].fields;
+}
+
 static void read_row(struct draft *draft, const char *line)
 {
     for (enum kind kind = SHEET; kind < KINDS; kind++) {
         size_t key = strlen(forms[kind].key);
         size_t most = counted(kind) ? ROWS_MOST : 1;
         if (strncmp(line, forms[kind].key, key) != 0 || line[key] != '=' || draft->rows[kind] == most)
+            continue;
+        if (kind == STAGE && analysed(line))
             continue;
         long *row = draft->value[kind][draft->rows[kind]++];
         const char *at = line + key + 1;

@@ -9,7 +9,9 @@
 
 enum { ROWS_MOST = 64 };
 
+/* Whether rows of this kind stand in a block, and the kind of the row that counts them. */
 bool counted(enum kind kind);
+enum kind count_of(enum kind kind);
 
 struct draft {
     size_t rows[KINDS];

@@ -16,7 +16,7 @@
 
 struct hallviska_answer second_balance(const uint8_t *sheet, size_t sheet_length, uint8_t *report, size_t report_length);
 
-enum { GUARD = 64, LEANING = 16, SHEET_MOST = 1 << 16, LENT = GUARD + LEANING + HALLVISKA_REPORT_MOST + GUARD, REFUSALS = 14 };
+enum { GUARD = 64, LEANING = 16, SHEET_MOST = 1 << 16, LENT = GUARD + LEANING + HALLVISKA_REPORT_MOST + GUARD, REFUSALS = 15 };
 
 /* What lies in a room and around it before a call, from a place that changes from call to call: a byte that was written by chance as it
  * was is written otherwise in another call. */

@@ -21,8 +21,8 @@ static long within(struct span span, struct dice *dice)
 }
 
 /* Numbers at which something changes besides the limits: breaks, sums, lengths of numbers. */
-static const long breaks[] = {0, 1, -1, 2, GAS_LEAST - 1, GAS_LEAST, 101, 199, 200, 210, 999, 1000, 7999, 8000, 8001, 9999, SHARES_ALL + 1,
-                              GAS_MOST + 1, 999999, 1000000000, -999999999};
+static const long breaks[] = {0, 1, -1, 2, GAS_LEAST - 1, GAS_LEAST, 101, 199, 200, 210, 999, 1000, 1001, ANALYSED_MOST, ANALYSED_MOST + 1, 7999,
+                              8000, 8001, 9999, SHARES_ALL + 1, GAS_MOST + 1, 999999, 1000000000, -999999999};
 
 /* Halves are met where factors of 2 and 5 come together. */
 static const long steps[] = {2, 4, 5, 8, 16, 25, 32, 50, 64, 100, 125, 250, 500, 625, 1000, 1250, 2500, 3125, 5000, 10000};
@@ -105,7 +105,7 @@ static void change_block(struct draft *draft, struct dice *dice)
             row[one][thrown(dice, forms[kind].fields)] = row[other][thrown(dice, forms[kind].fields)];
         break;
     case 3:
-        for (size_t most = (size_t)within(forms[kind - 1].span[0], dice); *rows < most;)
+        for (size_t most = (size_t)within(forms[count_of(kind)].span[0], dice); *rows < most;)
             fresh_row(row[(*rows)++], kind, dice);
         break;
     case 4:
@@ -160,8 +160,8 @@ void change_draft(struct draft *draft, struct dice *dice)
 static void repair_limits(struct draft *draft)
 {
     for (enum kind kind = SHEET; kind < KINDS; kind++) {
-        if (counted(kind) && (long)draft->rows[kind] > forms[kind - 1].span[0].most)
-            draft->rows[kind] = (size_t)forms[kind - 1].span[0].most;
+        if (counted(kind) && (long)draft->rows[kind] > forms[count_of(kind)].span[0].most)
+            draft->rows[kind] = (size_t)forms[count_of(kind)].span[0].most;
         for (size_t row = 0; row < draft->rows[kind]; row++)
             for (size_t field = 0; field < forms[kind].fields; field++) {
                 long *value = &draft->value[kind][row][field];
@@ -169,6 +169,41 @@ static void repair_limits(struct draft *draft)
                 *value = *value < span.least ? span.least : *value > span.most ? span.most : *value;
             }
     }
+}
+
+/* The fields of a stage that sheet 2 has and sheet 1 has not, behind CO and before the minutes. */
+enum { CO = 3, PAIR = 4, OXYGEN = 5 };
+
+/* All stages are of the sheet's edition. What an analyser would have read comes by chance. */
+static void repair_edition(struct draft *draft, struct dice *dice)
+{
+    enum kind kind = draft->value[SHEET][0][0] == 2 ? ANALYSED : STAGE, other = kind == STAGE ? ANALYSED : STAGE;
+    size_t rows = draft->rows[other];
+    draft->rows[other] = 0;
+    for (size_t row = 0; row < rows && draft->rows[kind] < ROWS_MOST; row++) {
+        const long *from = draft->value[other][row];
+        long *to = draft->value[kind][draft->rows[kind]++];
+        fresh_row(to, kind, dice);
+        memcpy(to, from, PAIR * sizeof *to);
+        to[forms[kind].fields - 1] = from[forms[other].fields - 1];
+    }
+}
+
+/* What is too much of all three goes from the greatest. */
+static void repair_analyses(struct draft *draft)
+{
+    for (size_t row = 0; row < draft->rows[ANALYSED]; row++) {
+        long *value = draft->value[ANALYSED][row];
+        long surplus = value[CO] + value[PAIR] + value[OXYGEN] - ANALYSED_MOST;
+        if (surplus > 0)
+            value[value[PAIR] > value[OXYGEN] ? PAIR : OXYGEN] -= surplus;
+    }
+}
+
+/* How many rows stand in the block of this kind. Stages of both kinds stand in one. */
+static size_t in_block(const struct draft *draft, enum kind kind)
+{
+    return kind == STAGE || kind == ANALYSED ? draft->rows[STAGE] + draft->rows[ANALYSED] : draft->rows[kind];
 }
 
 static void repair_materials(struct draft *draft)
@@ -211,23 +246,23 @@ static void repair_sections(struct draft *draft)
 /* Each section is read once in each stage: what is read twice or nowhere is put where a reading is missing. */
 static void repair_walls(struct draft *draft, struct dice *dice)
 {
-    bool read[ROWS_MOST][ROWS_MOST + 1] = {{false}};
+    bool read[ROWS_MOST][2 * ROWS_MOST + 1] = {{false}};
     bool idle[ROWS_MOST];
-    size_t stages = draft->rows[STAGE], sections = draft->rows[SECTION], wall = 0;
+    size_t rounds = in_block(draft, STAGE), sections = draft->rows[SECTION], wall = 0;
     size_t readings = (size_t)forms[WALLS].span[0].most;
-    if (stages * sections > readings)
-        sections = draft->rows[SECTION] = readings / stages;
+    if (rounds * sections > readings)
+        sections = draft->rows[SECTION] = readings / rounds;
     for (size_t row = 0; row < draft->rows[WALL]; row++) {
         long *value = draft->value[WALL][row];
         size_t section = 0;
         while (section < sections && draft->value[SECTION][section][0] != value[0])
             section++;
-        idle[row] = section == sections || value[1] < 1 || value[1] > (long)stages || read[section][value[1]];
+        idle[row] = section == sections || value[1] < 1 || value[1] > (long)rounds || read[section][value[1]];
         if (!idle[row])
             read[section][value[1]] = true;
     }
     for (size_t section = 0; section < sections; section++)
-        for (size_t stage = 1; stage <= stages; stage++) {
+        for (size_t stage = 1; stage <= rounds; stage++) {
             if (read[section][stage])
                 continue;
             while (wall < draft->rows[WALL] && !idle[wall])
@@ -257,19 +292,20 @@ static void repair_colder(struct draft *draft)
 static void repair_total(struct draft *draft)
 {
     long left = GAS_MOST;
-    for (size_t row = 0; row < draft->rows[STAGE]; row++) {
-        long *gas = &draft->value[STAGE][row][0];
-        *gas = *gas > left ? left : *gas;
-        left -= *gas;
-    }
+    for (enum kind kind = STAGE; kind <= ANALYSED; kind++)
+        for (size_t row = 0; row < draft->rows[kind]; row++) {
+            long *gas = &draft->value[kind][row][0];
+            *gas = *gas > left ? left : *gas;
+            left -= *gas;
+        }
     if (left > GAS_MOST - GAS_LEAST)
-        draft->value[STAGE][0][0] += left - (GAS_MOST - GAS_LEAST);
+        draft->value[draft->rows[STAGE] ? STAGE : ANALYSED][0][0] += left - (GAS_MOST - GAS_LEAST);
 }
 
 void repair_draft(struct draft *draft, struct dice *dice)
 {
     for (enum kind kind = SHEET; kind < KINDS; kind++)
-        while (counted(kind) && (long)draft->rows[kind] < forms[kind - 1].span[0].least)
+        while (counted(kind) && (long)in_block(draft, kind) < forms[count_of(kind)].span[0].least)
             fresh_row(draft->value[kind][draft->rows[kind]++], kind, dice);
     /* the report rounds by the ware's mass: a joule that is off shows a hundred times sooner where the ware is light */
     if (thrown(dice, 3) == 0)
@@ -277,7 +313,11 @@ void repair_draft(struct draft *draft, struct dice *dice)
     /* a rule is left broken about once in so many sheets */
     enum { SELDOM = 12 };
     if (thrown(dice, SELDOM))
+        repair_edition(draft, dice);
+    if (thrown(dice, SELDOM))
         repair_limits(draft);
+    if (thrown(dice, SELDOM))
+        repair_analyses(draft);
     if (thrown(dice, SELDOM))
         repair_materials(draft);
     if (thrown(dice, SELDOM))
@@ -293,5 +333,5 @@ void repair_draft(struct draft *draft, struct dice *dice)
     if (thrown(dice, SELDOM))
         for (enum kind kind = SHEET; kind < KINDS; kind++)
             if (counted(kind))
-                draft->value[kind - 1][0][0] = (long)draft->rows[kind];
+                draft->value[count_of(kind)][0][0] = (long)in_block(draft, kind);
 }

@@ -231,6 +231,9 @@ impl Outcome {
             let what = if number == 0 { "accepted".to_string() } else { format!("refusal {number}") };
             println!("{word}: {what:10} {sheets:8} sheets");
         }
+        if plan.sheet_1 {
+            println!("{word}: {} sheets were put, the others are sheets 2", self.kinds.values().sum::<u64>());
+        }
         let each = self.seconds * 1e6 / plan.count.max(1) as f64;
         println!("{word}: {} sheets of seed {} in {:.1} s, {each:.0} us each", plan.count, plan.seed, self.seconds);
         match plan.against {

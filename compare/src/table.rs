@@ -1,7 +1,7 @@
 //! Document 01's table of lines as the fuzzer takes it, which is written in C: as a header, and as words for its engine.
 
 use crate::draft::{counts, material, ANALYSED};
-use second::limits::{ALL_SHARES, LINES, LONGEST, TOTAL_GAS};
+use second::limits::{ALL_SHARES, LINES, LONGEST, MOST_ANALYSED, TOTAL_GAS};
 use std::collections::BTreeSet;
 use std::fmt::Write;
 
@@ -11,9 +11,9 @@ const HEAD: &str = "\
 #include <stdbool.h>
 #include <stddef.h>
 
-enum { FIELDS_MOST = $, SHEET_LONGEST = $, SHARES_ALL = $, GAS_LEAST = $, GAS_MOST = $ };
+enum { FIELDS_MOST = $, SHEET_LONGEST = $, SHARES_ALL = $, ANALYSED_MOST = $, GAS_LEAST = $, GAS_MOST = $ };
 
-/* The kinds of lines, in the sheet's order. */
+/* The kinds of lines, in the sheet's order. A stage of sheet 2 stands behind that of sheet 1. */
 enum kind { $, KINDS };
 
 struct span {
@@ -36,7 +36,7 @@ pub fn header(example: &str) -> String {
     let most = LINES.iter().map(|(_, spans)| spans.len()).max().expect("a line");
     let name = |place: usize| if place == ANALYSED { "ANALYSED".to_string() } else { LINES[place].0.to_uppercase() };
     let kinds: Vec<String> = (0..LINES.len()).map(name).collect();
-    let numbers = [most as i64, LONGEST as i64, ALL_SHARES, TOTAL_GAS.0, TOTAL_GAS.1];
+    let numbers = [most as i64, LONGEST as i64, ALL_SHARES, MOST_ANALYSED, TOTAL_GAS.0, TOTAL_GAS.1];
     let mut due = numbers.iter().map(i64::to_string).chain([kinds.join(", ")]);
     let mut text = String::new();
     for piece in HEAD.split('$') {
