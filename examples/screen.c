@@ -62,6 +62,7 @@ static const char *const refusals[] = {
     [HALLVISKA_NO_ROOM] = "the report is longer than this screen's room for it",
     [HALLVISKA_NUMBER] = "this is not written as a number should be",
     [HALLVISKA_TORN] = "the sheet ends before this line does, or goes on after its end",
+    [HALLVISKA_ANALYSIS] = "CO, CO2 with SO2, and O2 are more than 40 % of the dry flue together",
 };
 
 /* Fourteen digits are more than any firing has. Two such figures together, times 10,000, still fit 64 bits, which `share` needs. */

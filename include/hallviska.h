@@ -26,7 +26,7 @@ enum hallviska_refusal {
     HALLVISKA_ACCEPTED = 0,      /* no refusal: the report is written; line 0 */
     HALLVISKA_TOO_LONG = 1,      /* the sheet is longer than 16,384 bytes; line 0 */
     HALLVISKA_FORM = 2,          /* another key or number of fields than is due */
-    HALLVISKA_RANGE = 3,         /* a field outside its range; `sheet` or `end` that isn't 1; has its field */
+    HALLVISKA_RANGE = 3,         /* a field outside its range; a `sheet` other than 1 and 2, an `end` other than 1; has its field */
     HALLVISKA_MATERIAL = 4,      /* material 0 without a specific heat, or material 1..18 with one; has its field */
     HALLVISKA_GAS = 5,           /* the gas shares don't add to 10,000, or there is nothing in it for air to burn */
     HALLVISKA_SECTION = 6,       /* a section number given twice; a wall line for a section or a stage that isn't there */
@@ -36,7 +36,8 @@ enum hallviska_refusal {
     HALLVISKA_TOTAL_GAS = 10,    /* the gas of all stages outside 100..200,000; line 0 */
     HALLVISKA_NO_ROOM = 11,      /* the report is longer than `report_length`; line 0 */
     HALLVISKA_NUMBER = 12,       /* a field that is not in number form, an empty one too; has its field */
-    HALLVISKA_TORN = 13          /* a line without its LF, a sheet that ends too early, or bytes after `end` */
+    HALLVISKA_TORN = 13,         /* a line without its LF, a sheet that ends too early, or bytes after `end` */
+    HALLVISKA_ANALYSIS = 14      /* in a stage of sheet 2, CO, CO2 with SO2, and O2 are above 4,000 together */
 };
 
 struct hallviska_answer {
@@ -57,7 +58,7 @@ struct hallviska_answer {
  *
  * What comes back, for every input:
  *   - `refusal` 0, `line` 0, `field` 0 and `length`, the report's: report[0..length) is the report, the bytes from `length` on are as they were;
- *   - or `refusal` 1..13, its `line` and `field`, and `length` 0: no byte of the report's room has changed.
+ *   - or `refusal` 1..14, its `line` and `field`, and `length` 0: no byte of the report's room has changed.
  * The same sheet gets the same answer in any room in which its report fits. In a smaller one an accepted sheet gets refusal 11, and a
  * refused sheet its own refusal, for 11 comes last. The sheet's bytes are only read.
  *
