@@ -4,7 +4,8 @@
  * the header that this archive came with, in which case OLDER is defined. When an answer gets one number more, `struct said` gets it, and
  * `ask` a line that takes it. An archive from before that has no such number: that line stands between `#ifndef OLDER` and `#endif`. The
  * number is then as the newer archive has said it, and so it is not compared. So it is with the field, which came with T-01; and where a
- * newer archive says 12 or 13, an older one has to say 2.
+ * newer archive says 12 or 13, an older one has to say 2. Sheet 2, which came with T-03, is not for an archive from before: tools/same
+ * leaves it out where it is told to.
  */
 #ifndef ASK_H
 #define ASK_H

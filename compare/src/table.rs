@@ -44,11 +44,13 @@ pub fn header(example: &str) -> String {
         text += &due.next().unwrap_or_default();
     }
     for (place, (key, spans)) in LINES.iter().enumerate() {
-        let spans: Vec<String> = spans.iter().map(|(least, greatest)| format!("{{{least}, {greatest}}}")).collect();
-        let values =
-            example.lines().filter_map(|line| line.split_once('=')).find(|(other, _)| other == key).map_or("0", |(_, values)| values);
+        let rows = || example.lines().filter_map(|line| line.split_once('='));
+        // The example is of sheet 1, and has no stage of sheet 2.
+        let fits = |values: &str| values.split(',').count() == spans.len();
+        let values = rows().find(|(other, values)| other == key && fits(values)).map_or("0", |(_, values)| values);
+        let limits: Vec<String> = spans.iter().map(|(least, greatest)| format!("{{{least}, {greatest}}}")).collect();
         let (material, counts) = (material(place).unwrap_or(0), counts(place));
-        let _ = writeln!(text, "    {{\"{key}\", {}, {material}, {counts}, {{{}}}, {{{values}}}}},", spans.len(), spans.join(", "));
+        let _ = writeln!(text, "    {{\"{key}\", {}, {material}, {counts}, {{{}}}, {{{values}}}}},", spans.len(), limits.join(", "));
     }
     text + "};\n"
 }
