@@ -6,7 +6,7 @@ use mathlib.Core.List.{List}
 use lib.Dec.{ltb}
 use lib.ListN.{length}
 use Rattle.sheet.specs.declared.Refusal.{Refusal}
-use Rattle.sheet.specs.declared.Refusal.the-variants.{TooLong, NoLineFeed, WrongKey, WrongCount, NotANumber, Surplus, Outside, Material, Shares, SectionTwice, NoSuchWall, ReadTwice, Missing, Colder, GasTotal, NoRoom}
+use Rattle.sheet.specs.declared.Refusal.the-variants.{TooLong, NoLineFeed, WrongKey, WrongCount, NotANumber, Surplus, Outside, Material, Shares, SectionTwice, NoSuchWall, ReadTwice, Missing, Colder, GasTotal, NoRoom, Analysis}
 use Rattle.sheet.specs.Refusals.{number}
 use Rattle.document.specs.Reader as lines
 use Rattle.document.specs.Reader.{Refused, Good, readOf}
@@ -34,6 +34,7 @@ number-before Missing = refl
 number-before Colder = refl
 number-before GasTotal = refl
 number-before NoRoom = refl
+number-before Analysis = refl
 
 answer-before : (a : lines.Answer) (room : ℕ) → before (answered a room) ≡ answered01 a room
 answer-before (Refused x n) room = ap (λ (k : ℕ). record { refusal = k; line = n; length = 0 }) (number-before x)

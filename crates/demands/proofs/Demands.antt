@@ -88,13 +88,13 @@ apart : (s : List ℕ) → Kept s → ¬ Refused s
 apart s k r =
     let f = k .firing in
     let good = ap (readOf document) (k .its) ∙ read-back f (k .rules) in
-    let a = fits s (report f) f good (firing-back f) (omega arith) .answer in
+    let a = fits s (report f) f good (firing-back f (k .rules .own)) (omega arith) .answer in
     let e : 0 ≡ r .number = ap (λ (y : Answer). y .refusal) (sym a ∙ r .told (report f) .answer) in
     absurd (let z : ⊥ = omega (arith, r .least) in z)
 
 -- the numbers of an answer are small
 record Small (a : Answer) : Type 0 where
-  refusal : a .refusal ≤ 13
+  refusal : a .refusal ≤ 14
   line : a .line ≤ sheetMost + 1
   field : a .field ≤ fieldsMost
 
@@ -147,12 +147,12 @@ good-one e = cc
 one : (f g : Firing) → Lawful f → Lawful g → text f ≡ text g → f ≡ g
 one f g a b e =
     let sheets = good-one (sym (read-back f a) ∙ ap (readOf document) e ∙ read-back g b) in
-    sym (firing-back f) ∙ ap firingOf sheets ∙ firing-back g
+    sym (firing-back f (a .own)) ∙ ap firingOf sheets ∙ firing-back g (b .own)
 
 pub demand2 : Demand2
 demand2 = record {
-  reported = λ f k room h. fits (text f) room f (read-back f k) (firing-back f) h;
-  noRoom = λ f k room h. no-room (text f) room f (read-back f k) (firing-back f) h;
+  reported = λ f k room h. fits (text f) room f (read-back f k) (firing-back f (k .own)) h;
+  noRoom = λ f k room h. no-room (text f) room f (read-back f k) (firing-back f (k .own)) h;
   only = λ s room zero. only s room zero (readOf document s) refl;
   one = one;
 }

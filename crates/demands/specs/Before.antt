@@ -5,7 +5,7 @@ use mathlib.Core.List.{List}
 use lib.Dec.{eqb, ltb}
 use lib.ListN.{length}
 use Rattle.sheet.specs.declared.Refusal.{Refusal}
-use Rattle.sheet.specs.declared.Refusal.the-variants.{TooLong, NoLineFeed, WrongKey, WrongCount, NotANumber, Surplus, Outside, Material, Shares, SectionTwice, NoSuchWall, ReadTwice, Missing, Colder, GasTotal, NoRoom}
+use Rattle.sheet.specs.declared.Refusal.the-variants.{TooLong, NoLineFeed, WrongKey, WrongCount, NotANumber, Surplus, Outside, Material, Shares, SectionTwice, NoSuchWall, ReadTwice, Missing, Colder, GasTotal, NoRoom, Analysis}
 use Rattle.document.specs.Reader as lines
 use Rattle.document.specs.Reader.{Refused, Good, readOf}
 use Rattle.document.specs.Editions.{document}
@@ -31,6 +31,7 @@ number01 Missing = 8
 number01 Colder = 9
 number01 GasTotal = 10
 number01 NoRoom = 11
+number01 Analysis = 14  -- of sheet 2 alone, which document 01 has not
 
 -- the answer had three numbers
 pub record Answer01 : Type 0 where

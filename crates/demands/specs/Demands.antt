@@ -46,7 +46,7 @@ pub record Refused (s : List ℕ) : Type 0 where
   pub line : ℕ
   pub field : ℕ
   pub least : 1 ≤ number
-  pub most : number ≤ 13
+  pub most : number ≤ 14
   pub ofSheet : ¬ (number ≡ 11)
   pub within : line ≤ sheetMost + 1
   pub fields : field ≤ fieldsMost
@@ -58,7 +58,7 @@ pub record Demand1 : Type 0 where
   pub either : (s : List ℕ) → Kept s ⊎ Refused s
   pub apart : (s : List ℕ) → Kept s → ¬ Refused s
   -- every number, every line and every field that is ever answered
-  pub numbers : (s : List ℕ) (room : ℕ) → answerOf s room .refusal ≤ 13
+  pub numbers : (s : List ℕ) (room : ℕ) → answerOf s room .refusal ≤ 14
   pub lines : (s : List ℕ) (room : ℕ) → answerOf s room .line ≤ sheetMost + 1
   pub fields : (s : List ℕ) (room : ℕ) → answerOf s room .field ≤ fieldsMost
   -- what the reader says is answered in every room

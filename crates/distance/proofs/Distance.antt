@@ -25,14 +25,15 @@ use Rattle.document.specs.Rows.{firingOf}
 use Rattle.document.specs.Lawful.{In, StageIn, SectionIn, WallIn, Lawful}
 use Rattle.document.proofs.Editions.{firing-lawful}
 use Rattle.formulas.specs.Rounding.{Rounding, convected, power, paper}
-use Rattle.formulas.specs.Formulas.{gasHeat, joule, sensible, q1, q2, q3, q5, q8, x1, x2, x3, x5, x10, dryFlue, vapourRate, vapour, dryHeat, vapourHeat, flueHeat, monoxideHeat, x7, x8, noStage, numbered, sectionOf, stageOf, convection, radiation, flux, wallHeat, x9, waterHeat, useful, withset}
-use Rattle.formulas.specs.Sizes.{placedMost, warmerMost}
+use Rattle.formulas.specs.Formulas.{gasHeat, joule, sensible, q1, q2, q3, q5, q8, x1, x2, x3, x5, x10, dryFlue, vapourRate, vapour, dryHeat, vapourHeat, flueHeat, monoxideHeat, flueCapacity, x7, x8, noStage, numbered, sectionOf, stageOf, convection, radiation, flux, wallHeat, x9, waterHeat, useful, withset}
+use Rattle.formulas.specs.Sizes.{placedMost, warmerMost, carriedMost}
 use Rattle.formulas.specs.Items.{Quantity, Item, item, Sides, shuttle, total, x11, heats}
 use Rattle.formulas.specs.Report.{Line, number, heat, share, itemLine, shares, lines, printed}
 use Rattle.formulas.proofs.Sizes.{placed-most}
+use Rattle.formulas.proofs.Capacity.{flue-in, carried-most}
 use Rattle.distance.specs.Demand.{Stand, greatest, oneMore, standIn, Enclosed, Choice, against, surface, thousand, allowed, leeway, Within, Near, Demand3}
 use Rattle.distance.proofs.FourthRoot.{units, four-less, twice-below, twice-above, not-above, above}
-use Rattle.distance.proofs.Off.{Off, Size, same, sizes, _⊞_, _⊟_, _⊠_, times, per, per-both, rounded, settled, summed, records}
+use Rattle.distance.proofs.Off.{Off, Size, same, sizes, _⊞_, _⊟_, _⊠_, times, times-both, per, per-both, rounded, settled, summed, records}
 
 -- ---- THE STAND-INS: their fourth powers enclose the exact one, and each is at most two units from the term, which is within one of the lesser
 enclosed : (n : ℕ) → Enclosed n
@@ -150,7 +151,11 @@ module _ (f : Firing) (h : Lawful f) (choice : Choice) where
   -- ---- Flue. The rounded rate of vapour counts by the gas that it is for, so over all stages by refusal 10's greatest: by each stage's
   -- greatest, twelve times that, x11 would not be near
   warmth : (s : Stage) → StageIn s → Size (natAbs (flue .greatest -ℤ ambient .least)) (s .flue -ℤ f .ambient)
-  warmth s c = record { size = bound (range (c .flue .low) (c .flue .high) ∷ range (h .ambient .low) (h .ambient .high) ∷ []) (arg 0 ⟨-⟩ arg 1) tt }
+  warmth s c = record { size = bound (range (flue-in s c .low) (flue-in s c .high) ∷ range (h .ambient .low) (h .ambient .high) ∷ []) (arg 0 ⟨-⟩ arg 1) tt }
+
+  -- c is given, and rounded on neither side: what an analysed flue carries is no more than sheet 1's greatest
+  carried : (s : Stage) → StageIn s → Size carriedMost (flueCapacity s *ℤ (s .flue -ℤ f .ambient))
+  carried s c = record { size = carried-most s c (h .ambient) .size }
 
   gas-most : natAbs (totalGas (f .stages)) ≤ natAbs (gasTotal .greatest)
   gas-most = bound (range (gas-in h .low) (gas-in h .high) ∷ []) (arg 0) tt
@@ -161,7 +166,7 @@ module _ (f : Firing) (h : Lawful f) (choice : Choice) where
       known
       (settled
       (summed (λ s. s .gas) (λ s c. c .gas .low) (f .stages) (h .stages) (h .stagesMost) (λ s c.
-      rounded (lit< tt) (times (rounded (lit< tt) same ⊠ pos 1384) (warmth s c) ⊠ pos (joule / 10 ^ 11))
+      rounded (lit< tt) (times-both (flueCapacity s) (s .flue -ℤ f .ambient) (rounded (lit< tt) same) (carried s c) ⊠ pos (joule / 10 ^ 11))
       ⊞ rounded (lit< tt) (times (rounded (lit< tt) (per (s .gas) (rounded (lit< tt) same)) ⊠ pos 193) (warmth s c) ⊠ pos (joule / (56 * 10 ^ 17)))))
       gas-most)
 

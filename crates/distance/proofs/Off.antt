@@ -64,6 +64,13 @@ pub record Size (most : ℕ) (m : ℤ) : Type 0 where
 pub times : {w a b most : ℕ} {x y m : ℤ} → Off w a b x y → Size most m → Off w (a * most) (b * most) (x *ℤ m) (y *ℤ m)
 times {x = x} {y} {m} p h = record { off = omega (arith, apart-product x y m (p .off) (h .size)) }
 
+-- times two, of whose product the greatest size is known
+pub times-both : {w a b most : ℕ} {x y : ℤ} (m n : ℤ) → Off w a b x y → Size most (m *ℤ n) → Off w (a * most) (b * most) (x *ℤ m *ℤ n) (y *ℤ m *ℤ n)
+times-both {w} {a} {b} {most} {x} {y} m n p h = record {
+  off = subst (λ (i : ℤ). natAbs i ≤ a * most + b * most * w)
+      (ring (x ∷ y ∷ m ∷ n ∷ []) (v 0 ⊗ (v 2 ⊗ v 3) ⊖ v 1 ⊗ (v 2 ⊗ v 3)) (v 0 ⊗ v 2 ⊗ v 3 ⊖ v 1 ⊗ v 2 ⊗ v 3) tt) (times p h .off);
+}
+
 -- times the weight, which may be a product
 pub per : {a : ℕ} {x y : ℤ} (m : ℤ) → Off (natAbs m) a 0 x y → Off (natAbs m) 0 a (x *ℤ m) (y *ℤ m)
 per {x = x} {y} m p = record { off = omega (arith, apart-product x y m (p .off) (le-refl (natAbs m))) }

@@ -159,7 +159,7 @@ paragraph-stopped (many key a b l rule) seen n m text r known e = here (readLine
                 ∙ ap (λ (y : List ℕ). lineText (countLine key a b) (plain (pos (k row) ∷ [])) ++ y) (x .whole);
             place = refl;
           });
-          stops = subst (λ (i : ℕ). readLine l (ruleFor (l .key) above) i (x .left) ≡ stopped r m) z keyed ∙ ap (stopped r) same;
+          stops = subst (λ (i : ℕ). readLine l (ruleFor (l .key) (length (l .fields)) above) i (x .left) ≡ stopped r m) z keyed ∙ ap (stopped r) same;
           line = same;
         }
 

@@ -7,7 +7,7 @@ use Rattle.sheet.specs.Quantities.{stagesLeast, stagesMost, settersMost, partsM
 use Rattle.document.specs.Reader.{one, many}
 use Rattle.document.specs.Tests.{free, gas-rule, material-rule, section-rule, wall-rule}
 use Rattle.document.specs.Document01.{sheetLine, firingLine, productLine, ambientLine, fuelLine, gasLine, airLine, wareLine, waterLine, clayLine, stageLine, setterLine, partLine, sectionLine, wallLine, endLine}
-use Rattle.document.specs.Editions.{entriesOf}
+use Rattle.document.specs.Editions.{entriesBy, entriesOf}
 use Rattle.document.proofs.Entries.{allLines}
 
 -- THE LINES OF EDITION 1, as in document 01's table
@@ -29,5 +29,5 @@ pub lines01 : allLines (pos 1) ≡
     ∷ many (bytes "walls") 0 wallsMost wallLine wall-rule
     ∷ one endLine free
     ∷ []
-unfolding entriesOf
+unfolding entriesBy
 lines01 = refl

@@ -2,8 +2,8 @@
 -- sheets share is proved once, and a sheet is its groups one behind the other. Assumes nothing.
 use Prim.Native.Nat.{_≤_}
 use mathlib.Core.Path.{_≡_, refl, sym, ap, subst, _∙_}
-use mathlib.Core.List.{List, [], _∷_, _++_}
-use mathlib.Core.Bool.{true}
+use mathlib.Core.List.{List, [], _∷_, _++_, map}
+use mathlib.Core.Bool.{Bool, true, false, cond}
 use lib.ListN.{length}
 use lib.IntN.{ℤ, pos}
 use lib.Signed.{_<ℤ_}
@@ -12,17 +12,19 @@ use Rattle.sheet.specs.Firing.{Stage, Wall, Firing}
 use Rattle.sheet.specs.Block.{sum}
 use Rattle.document.specs.Schema.{Row}
 use Rattle.document.specs.Reader.{Sheet, rowsOf, Paragraph, keyOf}
-use Rattle.sheet.specs.Quantities.{edition, firing, product, ambient, heating, fuelTemperature, share, moisture, mass, sectionNumber, stageNumber, surface, nearAir, stagesMost, settersMost, partsMost, sectionsMost, wallsMost, gases}
+use Rattle.sheet.specs.Quantities.{edition, firing, product, ambient, heating, fuelTemperature, share, moisture, mass, sectionNumber, stageNumber, surface, nearAir, stagesMost, settersMost, partsMost, sectionsMost, wallsMost, gases, analysisMost}
 use Rattle.document.specs.Tests.{weigh, airWeights}
 use Rattle.document.specs.Entries.{Entry, paragraphsOf}
 use Rattle.document.specs.Document01.{gasLine, stageLine, setterLine, partLine, sectionLine, wallLine, opening, heading, fuelling, drying, staging, loading, surfaces, ending}
-use Rattle.document.specs.Editions.{entriesOf}
-use Rattle.document.specs.Rules.{Every, NoTwo, MaterialKeeps, GasKeeps, SameNumber, Listed, Staged, SameReading, Warm}
-use Rattle.document.specs.Rows.{gasOf, stageRow, stageOf, setterRow, setterOf, partRow, partOf, sectionRow, sectionOf, wallRow, wallOf, first, editionIn, stageAs, stagesIn, sectionsIn, wallAs, wallsIn, firingOf}
-use Rattle.document.specs.Lawful.{In, GasIn, WareIn, WaterIn, StageIn, SetterIn, PartIn, SectionIn, WallIn}
+use Rattle.document.specs.Sheet2.{analysedLine, analysedStaging}
+use Rattle.document.specs.Editions.{entriesBy, entriesOf}
+use Rattle.document.specs.Rules.{Every, NoTwo, MaterialKeeps, GasKeeps, AnalysisKeeps, SameNumber, Listed, Staged, SameReading, Warm}
+use Rattle.document.specs.Rows.{gasOf, analysed, stageRow, stageOf, analysedRow, analysedOf, setterRow, setterOf, partRow, partOf, sectionRow, sectionOf, wallRow, wallOf, first, editionIn, stageAs, stagesIn, sectionsIn, wallAs, wallsIn, firingOf}
+use Rattle.document.specs.Lawful.{has, Own, In, GasIn, WareIn, WaterIn, StageIn, SetterIn, PartIn, SectionIn, WallIn}
 use Rattle.document.proofs.Judged.{is-fit}
-use Rattle.document.proofs.Rules.{material-asks, gas-asks}
-use Rattle.document.proofs.Lists.{every-with, every-join, every-split}
+use Rattle.document.proofs.Rules.{material-asks, gas-asks, analysis-asks}
+use Rattle.document.proofs.Lists.{every-with, every-one, every-join, every-split, made-every}
+use Rattle.document.proofs.Cases.{clash}
 use Rattle.document.proofs.Above.{Same}
 use Rattle.document.proofs.Forms.{OneRow, ParagraphForm, Keyed, distinct}
 use Rattle.document.proofs.Rows.{row-back, one-back, many-back, end-back}
@@ -161,20 +163,65 @@ drying-laws = record {
 -- ---- STAGES
 pub record StagingIn (f : Firing) : Type 0 where
   pub each : Every StageIn (f .stages)
+  pub own : Every (Own (f .edition)) (f .stages)
   pub some : 1 ≤ length (f .stages)
   pub most : length (f .stages) ≤ stagesMost
 
-pub staging-laws : {edition : ℤ} → ReadAs edition stageAs stageOf → Group edition staging StagingIn Silent
-staging-laws {edition} read = record {
+-- 14, of a sheet whose flue is analysed
+abbrev pub StagesKeep : Sheet → Type 0
+StagesKeep s = analysed (editionIn s) ≡ true → Every AnalysisKeeps (rowsOf (bytes "stage") s)
+
+stages-own : (edition : ℤ) (rows : List Row) → Every (Own edition) (map (stageAs edition) rows)
+stages-own edition rows = made-every (stageAs edition) (Own edition) rows (every-one (λ r. here (analysed edition) r) rows)
+  where
+    here : (t : Bool) (r : Row) → has (cond t (analysedOf r) (stageOf r) .analysis) ≡ t
+    here true r = refl
+    here false r = refl
+
+pub staging-laws : {edition : ℤ} → analysed edition ≡ false → ReadAs edition stageAs stageOf → Group edition staging StagingIn StagesKeep
+staging-laws {edition} plainly read = record {
   each = record { back = λ s e. many-back stageRow (stageAs (editionIn s)) (λ r h. ap stageRow (read s e r) ∙ row-back stageLine r h) } & tt;
   known = λ s e k a. record {
     each = many-in StageIn (stageAs (editionIn s)) (k .0) (λ r z.
         subst (λ (x : Stage). StageIn x) (sym (read s e r)) (record { gas = z 0; excess = z 1; flue = z 2; co = z 3; minutes = z 4 }));
+    own = stages-own (editionIn s) (rowsOf (bytes "stage") s);
     some = enough (stageAs (editionIn s)) (k .0);
     most = few (stageAs (editionIn s)) (k .0);
   };
-  asked = λ s e k. record { to = λ r. tt; from = λ r. unasked s _ (λ t r. refl) & tt };
+  asked = λ s e k. record {
+    to = λ r t. let z : analysed (editionIn s) ≡ false = ap analysed e ∙ plainly in clash cc;
+    from = λ r. unasked s _ (λ t r. refl) & tt;
+  };
 }
+
+-- (sheet 2)
+pub analysed-laws : {edition : ℤ} → analysed edition ≡ true → ReadAs edition stageAs analysedOf → Group edition analysedStaging StagingIn StagesKeep
+analysed-laws {edition} has-one read = record {
+  each = record { back = λ s e. many-back analysedRow (stageAs (editionIn s)) (λ r h. ap analysedRow (read s e r) ∙ row-back analysedLine r h) } & tt;
+  known = λ s e k a. record {
+    each = many-ruled StageIn AnalysisKeeps (stageAs (editionIn s)) (k .0) (a (ap analysed e ∙ has-one)) (λ r z m.
+        subst (λ (x : Stage). StageIn x) (sym (read s e r)) (record {
+          gas = z 0;
+          excess = z 1;
+          flue = record { flue = z 2; pair = z 4; oxygen = z 5; together = not-below (pos analysisMost) _ m };
+          co = z 3;
+          minutes = z 6;
+        }));
+    own = stages-own (editionIn s) (rowsOf (bytes "stage") s);
+    some = enough (stageAs (editionIn s)) (k .0);
+    most = few (stageAs (editionIn s)) (k .0);
+  };
+  asked = λ s e k.
+      let rows = alone s _ analysis-asks in
+      record { to = λ r t. rows .to (r .0); from = λ a. rows .from (a (ap analysed e ∙ has-one)) & tt };
+}
+
+stages-of : (edition : ℤ) → Group edition (cond (analysed edition) analysedStaging staging) StagingIn StagesKeep
+stages-of edition = here (analysed edition) refl
+  where
+    here : (t : Bool) → analysed edition ≡ t → Group edition (cond t analysedStaging staging) StagingIn StagesKeep
+    here true q = analysed-laws q (λ s e r. rw (e, q))
+    here false q = staging-laws q (λ s e r. rw (e, q))
 
 -- ---- SETTERS, PARTS
 pub record LoadingIn (f : Firing) : Type 0 where
@@ -285,6 +332,7 @@ ending-laws = record {
 pub record AllKeep (s : Sheet) : Type 0 where
   pub gas : Every GasKeeps (rowsOf (bytes "gas") s)
   pub ware : Every (MaterialKeeps 3) (rowsOf (bytes "ware") s)
+  pub stages : StagesKeep s
   pub loading : LoadingKeeps s
   pub surfaces : SurfacesKeep s
 
@@ -300,14 +348,14 @@ pub record AllIn (f : Firing) : Type 0 where
 abbrev Keeping : Sheet → Type 0
 Keeping s =
     Unit {0} × (Unit {0} × (Every GasKeeps (rowsOf (bytes "gas") s) × (Every (MaterialKeeps 3) (rowsOf (bytes "ware") s)
-    × (Unit {0} × (LoadingKeeps s × (SurfacesKeep s × Unit {0}))))))
+    × (StagesKeep s × (LoadingKeeps s × (SurfacesKeep s × Unit {0}))))))
 
 abbrev Knowing : Firing → Type 0
 Knowing f = OpeningIn f × (HeadingIn f × (FuellingIn f × (DryingIn f × (StagingIn f × (LoadingIn f × (SurfacesIn f × Unit {0}))))))
 
 gathered : {edition : ℤ} {es : List Entry} → Group edition es Knowing Keeping → Group edition es AllIn AllKeep
 gathered g =
-    let back : (s : Sheet) → AllKeep s → Keeping s = λ s k. (tt, (tt, (k .gas, (k .ware, (tt, (k .loading, (k .surfaces, tt))))))) in
+    let back : (s : Sheet) → AllKeep s → Keeping s = λ s k. (tt, (tt, (k .gas, (k .ware, (k .stages, (k .loading, (k .surfaces, tt))))))) in
     record {
       each = g .each;
       known = λ s e k a.
@@ -316,7 +364,9 @@ gathered g =
           let n = m .1 .1 in
           record { opening = known .0; heading = m .0; fuelling = m .1 .0; drying = n .0; staging = n .1 .0; loading = n .1 .1 .0; surfaces = n .1 .1 .1 .0 };
       asked = λ s e k. record {
-        to = λ r. let m = g .asked s e k .to r .1 .1 in record { gas = m .0; ware = m .1 .0; loading = m .1 .1 .1 .0; surfaces = m .1 .1 .1 .1 .0 };
+        to = λ r.
+            let m = g .asked s e k .to r .1 .1 in
+            record { gas = m .0; ware = m .1 .0; stages = m .1 .1 .0; loading = m .1 .1 .1 .0; surfaces = m .1 .1 .1 .1 .0 };
         from = λ a. g .asked s e k .from (back s a);
       };
     }
@@ -326,16 +376,24 @@ pub record Sheets (edition : ℤ) : Type 0 where
   pub groups : Group edition (opening ∷ entriesOf edition) AllIn AllKeep
 
 pub sheets : (edition : ℤ) → Sheets edition
-unfolding entriesOf
+unfolding entriesBy
 sheets edition = record {
-  distinct = refl;
+  distinct = apart (analysed edition);
   groups = gathered
       (opening-laws
       then heading-laws
       then fuelling-laws
       then drying-laws
-      then staging-laws (λ s e r. refl)
+      then stages-of edition
       then loading-laws
-      then surfaces-laws (λ s e r. refl) refl
+      then surfaces-laws (λ s e r. refl) (in-order (analysed edition))
       then ending-laws);
 }
+  where
+    apart : (t : Bool) → distinct (paragraphsOf (opening ∷ entriesBy t)) ≡ true
+    apart true = refl
+    apart false = refl
+
+    in-order : (t : Bool) → ordered (paragraphsOf (opening ∷ entriesBy t)) ≡ true
+    in-order true = refl
+    in-order false = refl

@@ -14,7 +14,7 @@ use Rattle.sheet.specs.Block.{sum}
 use Rattle.sheet.specs.Quantities.{sheetMost}
 use Rattle.document.specs.Schema.{pieces, numbersOf, formedBy, outsideOf, judge}
 use Rattle.document.specs.Reader.{readLine, readRows, readParagraphs, Answer, Refused, Good, readOf, sameKey}
-use Rattle.document.specs.Editions.{entriesOf, document}
+use Rattle.document.specs.Editions.{entriesBy, entriesOf, document}
 
 -- the sheet of document 01, with other values in some places and with other lines from `section` on
 abbrev sheet : String → String → String → String → List ℕ
@@ -120,5 +120,5 @@ right (c ∷ cs) = sameKey (heard (readOf document (c .text))) (c .heard) && rig
 
 -- the table holds
 pub edges : right cases ≡ true
-unfolding entriesOf readOf readParagraphs readRows readLine judge formedBy upTo begins pieces numbersOf numberWithin unsigned digitsRead outsideOf sum
+unfolding entriesBy readOf readParagraphs readRows readLine judge formedBy upTo begins pieces numbersOf numberWithin unsigned digitsRead outsideOf sum
 edges = refl

@@ -36,7 +36,7 @@ good-line s sheet n left e =
 
 fault-first : (s : List ℕ) (x : Refusal) (n : ℕ) (a : Looked s) → n ≡ a .at .number → Fault (a .at) x → First s (number x) n (field x)
 fault-first s x n a f (unfit h) = ofLine a f h
-fault-first s x n a f (ruledOut row h q) = ofRule a f row h (row-said (a .at .line .key) (a .at .above) row x q)
+fault-first s x n a f (ruledOut row h q) = ofRule a f row h (row-said (a .at .line .key) (length (a .at .line .fields)) (a .at .above) row x q)
 
 pub heard-first : (s : List ℕ) (x : Refusal) (n : ℕ) → readOf document s ≡ Refused x n → First s (number x) n (field x)
 unfolding readOf

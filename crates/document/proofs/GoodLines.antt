@@ -4,15 +4,16 @@ use Prim.Native.Nat.{ℕ}
 use mathlib.Core.Path.{_≡_, refl, sym, ap, subst}
 use mathlib.Core.List.{List, [], _∷_, _++_}
 use mathlib.Core.Option.{none}
-use mathlib.Core.Bool.{true}
+use mathlib.Core.Bool.{Bool, true, false}
 use lib.ListN.{length}
 use lib.IntN.{ℤ, pos}
 use Rattle.sheet.specs.Quantities.{to}
 use Rattle.document.specs.Schema.{Line, Row, plain, fits}
 use Rattle.document.specs.Reader.{Filled, Sheet, Rule, Paragraph, one, many, countLine, filled, Along, RowsKeep, ParagraphKeeps, ParagraphsKeep, LinesKeep}
 use Rattle.document.specs.Tests.{free}
-use Rattle.document.specs.Editions.{entriesOf, linesOf, document}
-use Rattle.document.specs.Rows.{editionIn}
+use Rattle.document.specs.Entries.{paragraphsOf}
+use Rattle.document.specs.Editions.{entriesBy, entriesOf, linesOf, document}
+use Rattle.document.specs.Rows.{editionIn, analysed}
 use Rattle.document.specs.Rules.{Every}
 use Rattle.document.specs.Lawful.{In}
 use Rattle.document.specs.GoodLines.{GoodRow, GoodRows, GoodParagraph, GoodLines}
@@ -24,37 +25,28 @@ use Rattle.document.proofs.KeyRules.{ruleFor, row-asks}
 
 -- A PARAGRAPH'S RULE is the rule of its key, and its count has none
 abbrev pub ByKey : Paragraph → Type 0
-ByKey (one l rule) = rule ≡ ruleFor (l .key)
-ByKey (many key a b l rule) = (rule ≡ ruleFor (l .key)) × (free ≡ ruleFor key)
+ByKey (one l rule) = rule ≡ ruleFor (l .key) (length (l .fields))
+ByKey (many key a b l rule) = (rule ≡ ruleFor (l .key) (length (l .fields))) × (free ≡ ruleFor key 1)
 
 pub first-by-key : ByKey (document .first)
 unfolding ruleFor
 first-by-key = refl
 
 pub lines-by-key : (edition : ℤ) → Every ByKey (linesOf edition)
-unfolding entriesOf ruleFor
-lines-by-key edition =
-    refl
-    & refl
-    & refl
-    & refl
-    & refl
-    & refl
-    & refl
-    & refl
-    & refl
-    & (refl, refl)
-    & (refl, refl)
-    & (refl, refl)
-    & (refl, refl)
-    & (refl, refl)
-    & refl
-    & tt
+unfolding entriesBy ruleFor
+lines-by-key edition = here (analysed edition)
+  where
+    here : (t : Bool) → Every ByKey (paragraphsOf (entriesBy t))
+    here true =
+        refl & refl & refl & refl & refl & refl & refl & refl & refl & (refl, refl) & (refl, refl) & (refl, refl) & (refl, refl) & (refl, refl) & refl & tt
+    here false =
+        refl & refl & refl & refl & refl & refl & refl & refl & refl & (refl, refl) & (refl, refl) & (refl, refl) & (refl, refl) & (refl, refl) & refl & tt
 
 -- A LINE
-pub row-good : (l : Line) (above : Sheet) (row : Row) → Same ((fits l row ≡ true) × (ruleFor (l .key) above row ≡ none)) (GoodRow l above row)
+pub row-good : (l : Line) (above : Sheet) (row : Row)
+    → Same ((fits l row ≡ true) × (ruleFor (l .key) (length (l .fields)) above row ≡ none)) (GoodRow l above row)
 row-good l above row =
-    let asks = row-asks (l .key) above row in
+    let asks = row-asks (l .key) (length (l .fields)) above row in
     record {
       to = λ h.
           let f = is-fit l row (h .0) in
@@ -70,7 +62,8 @@ row-good l above row =
     }
 
 -- THE ROWS OF A BLOCK
-rows-same : (l : Line) (above : Sheet) (before rows : List Row) → Same (RowsKeep l (ruleFor (l .key)) above before rows) (GoodRows l above before rows)
+rows-same : (l : Line) (above : Sheet) (before rows : List Row)
+    → Same (RowsKeep l (ruleFor (l .key) (length (l .fields))) above before rows) (GoodRows l above before rows)
 rows-same l above before [] = record { to = λ h. h; from = λ h. h }
 rows-same l above before (row ∷ rows) =
     let here = row-good l (above ++ filled l before) row in
@@ -80,7 +73,7 @@ rows-same l above before (row ∷ rows) =
       from = λ g. let a = here .from (g .0) in (a .0, a .1, rest .from (g .1));
     }
 
-pub rows-good : (l : Line) (rule : Rule) → rule ≡ ruleFor (l .key) → (above : Sheet) (rows : List Row)
+pub rows-good : (l : Line) (rule : Rule) → rule ≡ ruleFor (l .key) (length (l .fields)) → (above : Sheet) (rows : List Row)
     → Same (RowsKeep l rule above [] rows) (GoodRows l above [] rows)
 rows-good l rule k above rows =
     subst (λ (x : Rule). Same (RowsKeep l x above [] rows) (GoodRows l above [] rows)) (sym k) (rows-same l above [] rows)

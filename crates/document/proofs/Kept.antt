@@ -9,7 +9,7 @@ use Rattle.document.specs.Reader.{Sheet, rowsOf, Paragraph, keyOf, Parag
 use Rattle.document.specs.Tests.{whole-rule}
 use Rattle.document.specs.Entries.{Entry, paragraphsOf, fill}
 use Rattle.document.specs.Document01.{opening}
-use Rattle.document.specs.Editions.{entriesOf, document, sheetOf, unruled, formOnly}
+use Rattle.document.specs.Editions.{entriesBy, entriesOf, document, sheetOf, unruled, formOnly}
 use Rattle.document.specs.Rules.{Every, KeepsRules}
 use Rattle.document.specs.Rows.{editionIn, stagesIn, sectionsIn, wallsIn, firingOf}
 use Rattle.document.proofs.Rules.{whole-asks}
@@ -94,6 +94,7 @@ rules-kept sheet k =
       setters = lines .loading .setters;
       parts = lines .loading .parts;
       gas = lines .gas;
+      stages = lines .stages;
       numbered = lines .surfaces .numbered;
       listed = readings .listed;
       staged = readings .staged;
@@ -110,6 +111,7 @@ all-kept sheet k r =
     let lines : AllKeep sheet = record {
       gas = r .gas;
       ware = r .ware;
+      stages = r .stages;
       loading = record { setters = r .setters; parts = r .parts };
       surfaces = record { numbered = r .numbered; readings = record { listed = r .listed; staged = r .staged; once = r .once; warm = r .warm } };
     } in

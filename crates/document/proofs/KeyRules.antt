@@ -9,25 +9,26 @@ use mathlib.Core.Bool.{Bool, true, false, cond, _&&_, not}
 use native.Mathlib.Omega.{arith}
 use lib.ListN.{length}
 use lib.Dec.{eqb}
-use lib.IntN.{pos}
+use lib.IntN.{pos, _+ℤ_}
 use lib.Signed.{ltZ, _<ℤ_}
-use borrow.Author.Tests.{eqb-true}
+use borrow.Author.Tests.{eqb-true, eq-eqb}
 use Rattle.text.specs.Bytes.{bytes}
 use Rattle.sheet.specs.declared.Refusal.{Refusal}
-use Rattle.sheet.specs.declared.Refusal.the-variants.{Material, Shares, SectionTwice, NoSuchWall, ReadTwice, Colder}
+use Rattle.sheet.specs.declared.Refusal.the-variants.{Analysis, Material, Shares, SectionTwice, NoSuchWall, ReadTwice, Colder}
 use Rattle.sheet.specs.Refusals.{number, field}
 use Rattle.sheet.specs.Shown.{same}
 use Rattle.sheet.specs.Firing.{Stage, Section, Wall}
 use Rattle.sheet.specs.Block.{sum}
+use Rattle.sheet.specs.Quantities.{analysisMost}
 use Rattle.document.specs.Schema.{Row, at}
 use Rattle.document.specs.Reader.{Sheet, Rule, sameKey}
 use Rattle.document.specs.Rows.{sectionOf, editionIn, stagesIn, sectionsIn, wallAs, wallsIn}
-use Rattle.document.specs.Tests.{alike, weigh, airWeights, when, _else_, free, isListed, isRead, wallFault, material-rule, gas-rule, section-rule, wall-rule}
-use Rattle.document.specs.Rules.{Some, Every, MaterialKeeps, GasKeeps, SameNumber, Listed}
+use Rattle.document.specs.Tests.{alike, weigh, airWeights, when, _else_, free, isListed, isRead, wallFault, material-rule, gas-rule, analysis-rule, section-rule, wall-rule}
+use Rattle.document.specs.Rules.{Some, Every, MaterialKeeps, GasKeeps, AnalysisKeeps, SameNumber, Listed}
 use Rattle.document.specs.GoodLines.{RowKeeps}
-use Rattle.document.specs.Order.{WallFault, elsewhere, twice, colder, RowFault, ofWare, ofSetter, ofPart, ofGas, ofSection, ofWall}
+use Rattle.document.specs.Order.{WallFault, elsewhere, twice, colder, RowFault, ofWare, ofSetter, ofPart, ofStage, ofGas, ofSection, ofWall}
 use Rattle.document.proofs.Cases.{clash, both}
-use Rattle.document.proofs.Rules.{Asks, material-asks, gas-asks, section-asks, wall-asks, wall-said, listed-test, unlisted-heard, unstaged-heard, twice-heard, colder-heard}
+use Rattle.document.proofs.Rules.{Asks, material-asks, gas-asks, analysis-asks, section-asks, wall-asks, wall-said, listed-test, unlisted-heard, unstaged-heard, twice-heard, colder-heard}
 use Rattle.document.proofs.Entries.{_&_}
 
 -- THE RULE OF A KEY: the keys that have one, and none for any other
@@ -35,12 +36,13 @@ record Ruling : Type 0 where
   key : List ℕ
   rule : Rule
 
-abbrev rulings : List Ruling
-rulings =
+abbrev rulings : ℕ → List Ruling
+rulings fields =
     record { key = bytes "ware"; rule = material-rule 3 }
     ∷ record { key = bytes "setter"; rule = material-rule 2 }
     ∷ record { key = bytes "part"; rule = material-rule 1 }
     ∷ record { key = bytes "gas"; rule = gas-rule }
+    ∷ record { key = bytes "stage"; rule = cond (eqb fields 7) analysis-rule free }
     ∷ record { key = bytes "section"; rule = section-rule }
     ∷ record { key = bytes "wall"; rule = wall-rule }
     ∷ []
@@ -49,8 +51,8 @@ abbrev ruledBy : List Ruling → List ℕ → Rule
 ruledBy [] key = free
 ruledBy (x ∷ xs) key = cond (sameKey key (x .key)) (x .rule) (ruledBy xs key)
 
-unfoldable pub ruleFor : List ℕ → Rule
-ruleFor key = ruledBy rulings key
+unfoldable pub ruleFor : List ℕ → ℕ → Rule
+ruleFor key fields = ruledBy (rulings fields) key
 
 key-is : (a b : List ℕ) → sameKey a b ≡ true → a ≡ b
 key-is [] [] e = refl
@@ -108,6 +110,16 @@ module _ (above : Sheet) (row : Row) where
   gas-heard : ¬ GasKeeps row → gas-rule above row ≡ some Shares
   gas-heard n = when-some unburnable Shares (λ q. n (gas-asks above row .to q))
 
+  -- 14
+  abbrev tooMuch : Bool
+  tooMuch = ltZ (pos analysisMost) (at row 3 +ℤ at row 4 +ℤ at row 5)
+
+  analysis-said : (x : Refusal) → analysis-rule above row ≡ some x → (x ≡ Analysis) × ¬ AnalysisKeeps row
+  analysis-said x e = (when-said tooMuch Analysis x e .1, asks-said (analysis-asks above row) e)
+
+  analysis-heard : ¬ AnalysisKeeps row → analysis-rule above row ≡ some Analysis
+  analysis-heard n = when-some tooMuch Analysis (λ q. n (analysis-asks above row .to q))
+
   abbrev again : Bool
   again = isListed (sectionsIn above) (sectionOf row .number)
 
@@ -146,18 +158,32 @@ module _ (stages : List Stage) (sections : List Section) (above : List Wall) (w 
       here true false false false e = clash cc
 
 -- THE RULE OF A KEY ASKS FOR THE PLAIN RULES
-module _ (key : List ℕ) (above : Sheet) (row : Row) where
+module _ (key : List ℕ) (fields : ℕ) (above : Sheet) (row : Row) where
   abbrev reading : Wall
   reading = wallAs (editionIn above) row
 
   -- what is said to a line with the key is said to one with its name, and back
-  named : {o : Option Refusal} {name : List ℕ} → key ≡ name → ruleFor key above row ≡ o → ruleFor name above row ≡ o
-  named {o} k e = subst (λ (x : List ℕ). ruleFor x above row ≡ o) k e
+  named : {o : Option Refusal} {name : List ℕ} → key ≡ name → ruleFor key fields above row ≡ o → ruleFor name fields above row ≡ o
+  named {o} k e = subst (λ (x : List ℕ). ruleFor x fields above row ≡ o) k e
 
-  keyed : {o : Option Refusal} {name : List ℕ} → key ≡ name → ruleFor name above row ≡ o → ruleFor key above row ≡ o
-  keyed {o} k e = subst (λ (x : List ℕ). ruleFor x above row ≡ o) (sym k) e
+  keyed : {o : Option Refusal} {name : List ℕ} → key ≡ name → ruleFor name fields above row ≡ o → ruleFor key fields above row ≡ o
+  keyed {o} k e = subst (λ (x : List ℕ). ruleFor x fields above row ≡ o) (sym k) e
 
-  pub row-asks : Asks (ruleFor key above row) (RowKeeps key above row)
+  -- a stage with seven fields has the rule of the analysis
+  seventh : {o : Option Refusal} → fields ≡ 7 → ruleFor (bytes "stage") fields above row ≡ o → analysis-rule above row ≡ o
+  unfolding ruleFor
+  seventh {o} n e = subst (λ (t : Bool). cond t analysis-rule free above row ≡ o) (eq-eqb fields 7 n) e
+
+  stage-from : (t : Bool) → eqb fields 7 ≡ t → (fields ≡ 7 → analysis-rule above row ≡ none) → cond t analysis-rule free above row ≡ none
+  stage-from true q h = h (eqb-true fields 7 q)
+  stage-from false q h = refl
+
+  stage-said : {C : Type 0} (x : Refusal) (t : Bool) → eqb fields 7 ≡ t → cond t analysis-rule free above row ≡ some x
+      → (fields ≡ 7 → x ≡ Analysis → ¬ AnalysisKeeps row → C) → C
+  stage-said x true q e go = let m = analysis-said above row x e in go (eqb-true fields 7 q) (m .0) (m .1)
+  stage-said x false q e go = clash cc
+
+  pub row-asks : Asks (ruleFor key fields above row) (RowKeeps key fields above row)
   unfolding ruleFor
   row-asks =
       let wall = wall-asks (stagesIn above) (sectionsIn above) (wallsIn above) reading in
@@ -167,27 +193,30 @@ module _ (key : List ℕ) (above : Sheet) (row : Row) where
           setter = λ k. material-asks 2 above row .to (named k e);
           part = λ k. material-asks 1 above row .to (named k e);
           gas = λ k. gas-asks above row .to (named k e);
+          stage = λ k n. analysis-asks above row .to (seventh n (named k e));
           section = λ k. section-asks (sectionsIn above) (sectionOf row) .to (named k e);
           wall = λ k. wall .to (named k e);
         };
-        from = λ h. by-key (λ rule. rule above row ≡ none) key rulings
+        from = λ h. by-key (λ rule. rule above row ≡ none) key (rulings fields)
             ((λ k. material-asks 3 above row .from (h .ware k))
             & (λ k. material-asks 2 above row .from (h .setter k))
             & (λ k. material-asks 1 above row .from (h .part k))
             & (λ k. gas-asks above row .from (h .gas k))
+            & (λ k. stage-from (eqb fields 7) refl (λ n. analysis-asks above row .from (h .stage k n)))
             & (λ k. section-asks (sectionsIn above) (sectionOf row) .from (h .section k))
             & (λ k. wall .from (h .wall k))
             & tt) refl;
       }
 
   -- what it says is wrong with the row
-  pub row-said : (x : Refusal) → ruleFor key above row ≡ some x → RowFault key above row (number x) (field x)
+  pub row-said : (x : Refusal) → ruleFor key fields above row ≡ some x → RowFault key fields above row (number x) (field x)
   unfolding ruleFor
-  row-said x = by-key (λ rule. rule above row ≡ some x → RowFault key above row (number x) (field x)) key rulings
+  row-said x = by-key (λ rule. rule above row ≡ some x → RowFault key fields above row (number x) (field x)) key (rulings fields)
       ((λ k e. let m = material-said 3 above row x e in ofWare (ap number (m .0)) (ap field (m .0)) k (m .1))
       & (λ k e. let m = material-said 2 above row x e in ofSetter (ap number (m .0)) (ap field (m .0)) k (m .1))
       & (λ k e. let m = material-said 1 above row x e in ofPart (ap number (m .0)) (ap field (m .0)) k (m .1))
       & (λ k e. let m = gas-said above row x e in ofGas (ap number (m .0)) (ap field (m .0)) k (m .1))
+      & (λ k e. stage-said x (eqb fields 7) refl e (λ n m b. ofStage (ap number m) (ap field m) k n b))
       & (λ k e. let m = section-said above row x e in ofSection (ap number (m .0)) (ap field (m .0)) k (m .1))
       & (λ k e.
       let whole = wall-whole (stagesIn above) (sectionsIn above) (wallsIn above) reading x e in
@@ -195,28 +224,31 @@ module _ (key : List ℕ) (above : Sheet) (row : Row) where
       & tt) (λ e. clash cc)
 
   -- and whatever is wrong with the row it says
-  pub row-heard : (n i : ℕ) → RowFault key above row n i → SaidOf (ruleFor key above row) n i
+  pub row-heard : (n i : ℕ) → RowFault key fields above row n i → SaidOf (ruleFor key fields above row) n i
   unfolding ruleFor
   row-heard n i (ofWare e f k h) = record { refusal = Material 4; is = keyed k (material-heard 3 above row h); numbered = sym e; fielded = sym f }
   row-heard n i (ofSetter e f k h) = record { refusal = Material 3; is = keyed k (material-heard 2 above row h); numbered = sym e; fielded = sym f }
   row-heard n i (ofPart e f k h) = record { refusal = Material 2; is = keyed k (material-heard 1 above row h); numbered = sym e; fielded = sym f }
+  row-heard n i (ofStage e f k m h) =
+      record { refusal = Analysis; is = keyed k (rw (eq-eqb fields 7 m) (analysis-heard above row h)); numbered = sym e; fielded = sym f }
   row-heard n i (ofGas e f k h) = record { refusal = Shares; is = keyed k (gas-heard above row h); numbered = sym e; fielded = sym f }
   row-heard n i (ofSection e f k h) = record { refusal = SectionTwice; is = keyed k (section-heard above row h); numbered = sym e; fielded = sym f }
   row-heard n i (ofWall f k h) =
       let a = wall-heard (stagesIn above) (sectionsIn above) (wallsIn above) reading n h in
       record { refusal = a .refusal; is = keyed k (a .is); numbered = a .numbered; fielded = a .fielded ∙ sym f }
 
--- none is above 10, and no field above 4 is named
+-- none is 11, and no field above 4 is named
 pub record Few (k i : ℕ) : Type 0 where
-  pub number : k ≤ 10
+  pub number : ¬ (k ≡ 11)
   pub field : i ≤ 4
 
-pub row-few : {key : List ℕ} {above : Sheet} {row : Row} {k i : ℕ} → RowFault key above row k i → Few k i
-row-few (ofWare e f k n) = record { number = omega arith; field = omega arith }
-row-few (ofSetter e f k n) = record { number = omega arith; field = omega arith }
-row-few (ofPart e f k n) = record { number = omega arith; field = omega arith }
-row-few (ofGas e f k n) = record { number = omega arith; field = omega arith }
-row-few (ofSection e f k t) = record { number = omega arith; field = omega arith }
-row-few (ofWall f k (elsewhere e n)) = record { number = omega arith; field = omega arith }
-row-few (ofWall f k (twice e l t r)) = record { number = omega arith; field = omega arith }
-row-few (ofWall f k (colder e l t n c)) = record { number = omega arith; field = omega arith }
+pub row-few : {key : List ℕ} {fields : ℕ} {above : Sheet} {row : Row} {k i : ℕ} → RowFault key fields above row k i → Few k i
+row-few (ofStage e f k m n) = record { number = λ z. omega arith; field = omega arith }
+row-few (ofWare e f k n) = record { number = λ z. omega arith; field = omega arith }
+row-few (ofSetter e f k n) = record { number = λ z. omega arith; field = omega arith }
+row-few (ofPart e f k n) = record { number = λ z. omega arith; field = omega arith }
+row-few (ofGas e f k n) = record { number = λ z. omega arith; field = omega arith }
+row-few (ofSection e f k t) = record { number = λ z. omega arith; field = omega arith }
+row-few (ofWall f k (elsewhere e n)) = record { number = λ z. omega arith; field = omega arith }
+row-few (ofWall f k (twice e l t r)) = record { number = λ z. omega arith; field = omega arith }
+row-few (ofWall f k (colder e l t n c)) = record { number = λ z. omega arith; field = omega arith }

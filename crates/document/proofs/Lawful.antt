@@ -24,6 +24,7 @@ sheet-lawful s k =
       water = known .drying .water;
       clay = known .drying .clay;
       stages = known .staging .each;
+      own = known .staging .own;
       stagesSome = known .staging .some;
       stagesMost = known .staging .most;
       total = record { low = rules .total .0; high = rules .total .1 };

@@ -5,7 +5,7 @@ use mathlib.Core.Path.{_≡_, refl, sym, ap, subst, _∙_}
 use mathlib.Core.List.{List, [], _∷_, _++_, append-assoc, append-nil}
 use mathlib.Core.Logic.{inl, inr}
 use mathlib.Core.Option.{none, some}
-use mathlib.Core.Bool.{Bool, true, _&&_}
+use mathlib.Core.Bool.{Bool, true, false, _&&_}
 use native.Mathlib.Omega.{arith}
 use lib.ListN.{length}
 use lib.Seq.{append-snoc}
@@ -20,9 +20,10 @@ use Rattle.sheet.specs.Quantities.{sheetMost, fieldsMost}
 use Rattle.document.specs.Schema.{Line, Row, plain, lineText, sound}
 use Rattle.document.specs.Reader.{Sheet, Rule, Paragraph, one, many, countLine, filled, paragraphText, rowsText, sheetText, textOf, behind, soundParagraph, soundParagraphs, Read, stopped, got, readLine, readRows, readParagraph, readParagraphs, readLines, RowsKeep, LinesKeep, Refused, readOf}
 use Rattle.document.specs.Tests.{wholeFault}
-use Rattle.document.specs.Editions.{entriesOf, linesOf, document}
+use Rattle.document.specs.Entries.{paragraphsOf}
+use Rattle.document.specs.Editions.{entriesBy, entriesOf, linesOf, document}
 use Rattle.document.specs.Rules.{Every}
-use Rattle.document.specs.Rows.{editionIn, stagesIn, sectionsIn, wallsIn}
+use Rattle.document.specs.Rows.{editionIn, analysed, stagesIn, sectionsIn, wallsIn}
 use Rattle.document.specs.Order.{DueLine, InParagraph, InParagraphs, Due, Looked, WholeFault, total, missing, AllGood, last, First, tooLong, ofLine, ofRule, surplus, ofAll, Hears}
 use Rattle.document.proofs.Cases.{both}
 use Rattle.document.proofs.Blocks.{line-text, paragraph-text, paragraphs-text}
@@ -165,8 +166,12 @@ narrow-lines (many key a b l rule ∷ ps) k =
     ((lit≤ tt, leb-true (length (l .fields)) fieldsMost (t .0)), narrow-lines ps (t .1))
 
 document-narrow : (edition : ℤ) → narrow (linesOf edition) ≡ true
-unfolding entriesOf
-document-narrow edition = refl
+unfolding entriesBy
+document-narrow edition = here (analysed edition)
+  where
+    here : (t : Bool) → narrow (paragraphsOf (entriesBy t)) ≡ true
+    here true = refl
+    here false = refl
 
 pub due-narrow : (s : List ℕ) (d : DueLine) → Due s d → length (d .line .fields) ≤ fieldsMost
 due-narrow = due-line (λ l. length (l .fields) ≤ fieldsMost) (lit≤ tt) (λ top. narrow-lines (document .below top) (document-narrow (editionIn top)))
@@ -216,7 +221,7 @@ first-heard {s} {k} {i = i} (ofLine a f fault) =
     let x = fault-judged (a .at .line) (a .at .rest) (due-sound s (a .at) (a .due)) k i fault in
     at-line f (hears a (fault-stops (a .at) (x .refusal) (x .is)) (x .numbered) (x .fielded))
 first-heard {s} {k} {i = i} (ofRule a f row h fault) =
-    let x = row-heard (a .at .line .key) (a .at .above) row k i fault in
+    let x = row-heard (a .at .line .key) (length (a .at .line .fields)) (a .at .above) row k i fault in
     at-line f (hears a (rule-stops (a .at) (due-sound s (a .at) (a .due)) row h (x .refusal) (x .is)) (x .numbered) (x .fielded))
 first-heard {s} (surplus e g short sheet b left h f) =
     at-line f (record { refusal = Surplus; is = surplus-heard s short sheet b left h; numbered = sym e; fielded = sym g })

@@ -3,19 +3,22 @@
 use Prim.Native.Nat.{ℕ, zero, suc, _+_, _≤_}
 use mathlib.Core.Path.{_≡_, refl, sym, ap, _∙_}
 use mathlib.Core.List.{List, [], _∷_, map}
-use mathlib.Core.Bool.{true}
+use mathlib.Core.Bool.{Bool, true, false, cond}
+use mathlib.Core.Option.{Option, none, some}
 use native.Mathlib.Omega.{arith}
 use lib.ListN.{length, drop, drop-of-length-le}
 use lib.Seq.{drop-cons}
 use lib.IntN.{ℤ, pos}
-use Rattle.sheet.specs.Firing.{Firing}
+use Rattle.sheet.specs.Firing.{Analysis, Stage, Firing}
 use Rattle.document.specs.Schema.{Line, Row, plain, at, inRanges, fits, within}
 use Rattle.sheet.specs.Quantities.{closing}
-use Rattle.document.specs.Document01.{endLine}
-use Rattle.document.specs.Editions.{entriesOf, sheetOf}
+use Rattle.document.specs.Document01.{opening, endLine}
+use Rattle.document.specs.Editions.{entriesBy, entriesOf, sheetOf}
+use Rattle.document.specs.Entries.{fill}
 use Rattle.document.specs.Rules.{Every}
-use Rattle.document.specs.Rows.{stageRow, stageOf, setterRow, setterOf, partRow, partOf, sectionRow, sectionOf, wallRow, wallOf, first, firingOf}
-use Rattle.document.proofs.Cases.{both}
+use Rattle.document.specs.Lawful.{has, Own}
+use Rattle.document.specs.Rows.{analysed, analysisOf, stageAs, stageRow, stageOf, analysedRow, analysedOf, setterRow, setterOf, partRow, partOf, sectionRow, sectionOf, wallRow, wallOf, first, firingOf}
+use Rattle.document.proofs.Cases.{clash, both}
 use Rattle.document.proofs.Pieces.{ranges-length}
 use Rattle.document.proofs.Judged.{is-fit}
 use Rattle.document.proofs.Forms.{OneRow, ManyRows}
@@ -26,14 +29,55 @@ map-back : {A B : Type 0} (to : A → B) (from : B → A) → ((x : A) → from 
 map-back to from h [] = refl
 map-back to from h (x ∷ xs) = rw (h x, map-back to from h xs)
 
-pub firing-back : (f : Firing) → firingOf (sheetOf f) ≡ f
-unfolding entriesOf
-firing-back f =
-    let stages = map-back stageRow stageOf (λ x. refl) (f .stages) in
+every-back : {A B : Type 0} (P : A → Type 0) (to : A → B) (from : B → A) → ((x : A) → P x → from (to x) ≡ x)
+    → (xs : List A) → Every P xs → map from (map to xs) ≡ xs
+every-back P to from h [] k = refl
+every-back P to from h (x ∷ xs) k = rw (h x (k .0), every-back P to from h xs (k .1))
+
+-- a stage with an analysis, and one without
+analysed-back : (x : Stage) → has (x .analysis) ≡ true → analysedOf (analysedRow x) ≡ x
+analysed-back x e = here (x .analysis) e refl
+  where
+    here : (o : Option Analysis) → has o ≡ true → x .analysis ≡ o → analysedOf (analysedRow x) ≡ x
+    here none e q = clash cc
+    here (some a) e q =
+        let said = ap (λ (o : Option Analysis). some (analysisOf o)) q ∙ sym q in
+        λ i. record { gas = x .gas; excess = x .excess; flue = x .flue; co = x .co; analysis = said i; minutes = x .minutes }
+
+stage-back : (x : Stage) → has (x .analysis) ≡ false → stageOf (stageRow x) ≡ x
+stage-back x e = here (x .analysis) e refl
+  where
+    here : (o : Option Analysis) → has o ≡ false → x .analysis ≡ o → stageOf (stageRow x) ≡ x
+    here none e q = λ i. record { gas = x .gas; excess = x .excess; flue = x .flue; co = x .co; analysis = sym q i; minutes = x .minutes }
+    here (some a) e q = clash cc
+
+stages-back : (edition : ℤ) (t : Bool) → analysed edition ≡ t → (xs : List Stage) → Every (λ x. has (x .analysis) ≡ t) xs
+    → map (stageAs edition) (map (cond t analysedRow stageRow) xs) ≡ xs
+stages-back edition true e xs own =
+    every-back (λ x. has (x .analysis) ≡ true) analysedRow (stageAs edition) (λ x k. rw e (analysed-back x k)) xs own
+stages-back edition false e xs own =
+    every-back (λ x. has (x .analysis) ≡ false) stageRow (stageAs edition) (λ x k. rw e (stage-back x k)) xs own
+
+firing-by : (f : Firing) (t : Bool) → analysed (f .edition) ≡ t → Every (λ x. has (x .analysis) ≡ t) (f .stages)
+    → firingOf (map (fill f) (opening ∷ entriesBy t)) ≡ f
+unfolding entriesBy
+firing-by f t e own =
+    let stages = stages-back (f .edition) t e (f .stages) own in
     let setters = map-back setterRow setterOf (λ x. refl) (f .setters) in
     let parts = map-back partRow partOf (λ x. refl) (f .parts) in
     let sections = map-back sectionRow sectionOf (λ x. refl) (f .sections) in
-    rw (stages, setters, parts, sections, map-back wallRow wallOf (λ x. refl) (f .walls))
+    let walls = map-back wallRow wallOf (λ x. refl) (f .walls) in
+    here t stages setters parts sections walls
+  where
+    here : (t : Bool) → map (stageAs (f .edition)) (map (cond t analysedRow stageRow) (f .stages)) ≡ f .stages
+        → map setterOf (map setterRow (f .setters)) ≡ f .setters → map partOf (map partRow (f .parts)) ≡ f .parts
+        → map sectionOf (map sectionRow (f .sections)) ≡ f .sections → map wallOf (map wallRow (f .walls)) ≡ f .walls
+        → firingOf (map (fill f) (opening ∷ entriesBy t)) ≡ f
+    here true a b c d g = rw (a, b, c, d, g)
+    here false a b c d g = rw (a, b, c, d, g)
+
+pub firing-back : (f : Firing) → Every (Own (f .edition)) (f .stages) → firingOf (sheetOf f) ≡ f
+firing-back f own = firing-by f (analysed (f .edition)) refl own
 
 -- FROM THE SHEET TO ITS FIRING AND BACK: a row that fits its line is the numbers of its record
 abbrev numbersAt : ℕ → ℕ → Row → List ℤ

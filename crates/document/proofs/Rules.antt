@@ -9,20 +9,20 @@ use mathlib.Core.Bool.{Bool, true, false, _&&_, _||_, not}
 use native.Mathlib.Omega.{arith}
 use lib.ListN.{length}
 use lib.Dec.{T, leb, eqb}
-use lib.IntN.{ℤ, pos, negsuc}
+use lib.IntN.{ℤ, pos, negsuc, _+ℤ_}
 use lib.Signed.{leZ, ltZ, _≤ℤ_, _<ℤ_}
 use borrow.Author.Tests.{leb-true, le-leb, eqb-true, eqb-false}
 use Rattle.sheet.specs.declared.Refusal.{Refusal}
 use Rattle.sheet.specs.Refusals.{number, field}
-use Rattle.sheet.specs.declared.Refusal.the-variants.{Material, Shares, SectionTwice, NoSuchWall, ReadTwice, Missing, Colder, GasTotal}
+use Rattle.sheet.specs.declared.Refusal.the-variants.{Analysis, Material, Shares, SectionTwice, NoSuchWall, ReadTwice, Missing, Colder, GasTotal}
 use Rattle.sheet.specs.Shown.{same}
 use Rattle.sheet.specs.Firing.{Stage, Section, Wall}
 use Rattle.sheet.specs.Block.{sum, totalGas}
 use Rattle.document.specs.Schema.{Row, at, within}
 use Rattle.document.specs.Reader.{Sheet}
-use Rattle.sheet.specs.Quantities.{gasTotal}
-use Rattle.document.specs.Tests.{alike, any, all, weigh, airWeights, counted, isListed, isRead, when, _else_, material-rule, gas-rule, sectionFault, wallFault, wholeFault}
-use Rattle.document.specs.Rules.{Some, Every, MaterialKeeps, GasKeeps, SameNumber, Listed, Staged, SameReading, WallKeeps, IsRead, AllRead, TotalKeeps}
+use Rattle.sheet.specs.Quantities.{gasTotal, analysisMost}
+use Rattle.document.specs.Tests.{alike, any, all, weigh, airWeights, counted, isListed, isRead, when, _else_, material-rule, gas-rule, analysis-rule, sectionFault, wallFault, wholeFault}
+use Rattle.document.specs.Rules.{Some, Every, MaterialKeeps, GasKeeps, AnalysisKeeps, SameNumber, Listed, Staged, SameReading, WallKeeps, IsRead, AllRead, TotalKeeps}
 use Rattle.document.specs.Order.{WallFault, elsewhere, twice, colder, WholeFault, total, missing}
 use Rattle.document.proofs.Cases.{clash, both}
 
@@ -140,6 +140,10 @@ material-asks i seen row = here (same (pos 0) (at row i)) (same (pos 0) (at row 
 
 pub gas-asks : (seen : Sheet) (row : Row) → Asks (gas-rule seen row) (GasKeeps row)
 gas-asks seen row = asks Shares (tests-and (tests-same (sum (λ z. z) (row .numbers)) (pos 10000)) (tests-lt (pos 0) (weigh airWeights (row .numbers))))
+
+-- 14
+pub analysis-asks : (seen : Sheet) (row : Row) → Asks (analysis-rule seen row) (AnalysisKeeps row)
+analysis-asks seen row = asks-not Analysis (tests-lt (pos analysisMost) (at row 3 +ℤ at row 4 +ℤ at row 5))
 
 pub listed-test : (sections : List Section) (number : ℤ) → Tests (isListed sections number) (Some (λ x. x .number ≡ number) sections)
 listed-test sections number = tests-any (λ x. tests-same (x .number) number) sections

@@ -4,7 +4,7 @@ use mathlib.Core.Path.{_≡_, refl, sym, ap, _∙_}
 use mathlib.Core.List.{List}
 use mathlib.Core.Option.{Option, none, some}
 use mathlib.Core.Bool.{true}
-use lib.ListN.{drop}
+use lib.ListN.{length, drop}
 use Rattle.sheet.specs.declared.Refusal.{Refusal}
 use Rattle.sheet.specs.Refusals.{number, field}
 use Rattle.document.specs.Schema.{on, Row, sound, Judged, refused, values, judge}
@@ -20,7 +20,7 @@ use Rattle.document.proofs.Faults.{judge-fault}
 
 -- THE RULE THAT IS DUE at a line: that of its key, given all that stands above it
 abbrev pub due : DueLine → Row → Option Refusal
-due d = ruleFor (d .line .key) (d .above)
+due d = ruleFor (d .line .key) (length (d .line .fields)) (d .above)
 
 -- A LINE THAT STOPS THE READER
 abbrev pub Stops : Refusal → DueLine → Type 0

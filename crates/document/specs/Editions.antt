@@ -1,17 +1,22 @@
 -- Every edition of the sheet as one document, whose first line chooses the lines below it, and the sheet of a firing.
 use mathlib.Core.List.{List, _∷_, _++_, map}
+use mathlib.Core.Bool.{Bool}
 use mathlib.Core.Option.{none}
 use lib.IntN.{ℤ}
 use Rattle.sheet.specs.Firing.{Firing}
 use Rattle.document.specs.Reader.{Sheet, Paragraph, one, many, Document}
-use Rattle.document.specs.Rows.{editionIn}
+use Rattle.document.specs.Rows.{editionIn, analysed}
 use Rattle.document.specs.Tests.{free, whole-rule}
 use Rattle.document.specs.Entries.{Entry, paragraphsOf, fill}
-use Rattle.document.specs.Document01.{opening, heading, fuelling, drying, staging, loading, surfaces, ending}
+use Rattle.document.specs.Document01.{opening, heading, fuelling, drying, loading, surfaces, ending}
+use Rattle.document.specs.Sheet2.{stagingBy}
 
--- what stands below the first line, by the edition that it says: there is one so far, document 01's
-unfoldable pub entriesOf : ℤ → List Entry
-entriesOf edition = heading ++ (fuelling ++ (drying ++ (staging ++ (loading ++ (surfaces ++ ending)))))
+-- what stands below the first line: document 01's sheet, and where the flue is analysed other stages
+unfoldable pub entriesBy : Bool → List Entry
+entriesBy flue = heading ++ (fuelling ++ (drying ++ (stagingBy flue ++ (loading ++ (surfaces ++ ending)))))
+
+abbrev pub entriesOf : ℤ → List Entry
+entriesOf edition = entriesBy (analysed edition)
 
 abbrev pub linesOf : ℤ → List Paragraph
 linesOf edition = paragraphsOf (entriesOf edition)

@@ -10,15 +10,16 @@ use Rattle.sheet.specs.Quantities.{to}
 use Rattle.document.specs.Schema.{Line, Row}
 use Rattle.document.specs.Reader.{Filled, Sheet, Paragraph, one, many, filled, Document, Along}
 use Rattle.document.specs.Rows.{sectionOf, editionIn, stagesIn, sectionsIn, wallAs, wallsIn}
-use Rattle.document.specs.Rules.{Some, MaterialKeeps, GasKeeps, SameNumber, WallKeeps}
+use Rattle.document.specs.Rules.{Some, MaterialKeeps, GasKeeps, AnalysisKeeps, SameNumber, WallKeeps}
 use Rattle.document.specs.Lawful.{In, InRanges}
 
--- THE RULES OF A LINE with this key, given all that stands above it; a line with another key has none
-pub record RowKeeps (key : List ℕ) (above : Sheet) (row : Row) : Type 0 where
+-- THE RULES OF A LINE with this key and so many fields, given all that stands above it; a line with another key has none
+pub record RowKeeps (key : List ℕ) (fields : ℕ) (above : Sheet) (row : Row) : Type 0 where
   pub ware : key ≡ bytes "ware" → MaterialKeeps 3 row  -- 4
   pub setter : key ≡ bytes "setter" → MaterialKeeps 2 row
   pub part : key ≡ bytes "part" → MaterialKeeps 1 row
   pub gas : key ≡ bytes "gas" → GasKeeps row  -- 5
+  pub stage : key ≡ bytes "stage" → fields ≡ 7 → AnalysisKeeps row  -- 14, of a stage with an analysis
   pub section : key ≡ bytes "section" → ¬ Some (SameNumber (sectionOf row)) (sectionsIn above)  -- 6
   pub wall : key ≡ bytes "wall" → WallKeeps (stagesIn above) (sectionsIn above) (wallsIn above) (wallAs (editionIn above) row)  -- 6, 7, 9
 
@@ -26,7 +27,7 @@ pub record RowKeeps (key : List ℕ) (above : Sheet) (row : Row) : Type 0 where
 pub record GoodRow (l : Line) (above : Sheet) (row : Row) : Type 0 where
   pub nameless : row .name ≡ []
   pub within : InRanges (l .fields) (row .numbers)
-  pub keeps : RowKeeps (l .key) above row
+  pub keeps : RowKeeps (l .key) (length (l .fields)) above row
 
 -- good lines of one kind, one below the other, behind rows of the same kind that stand above them already
 abbrev pub GoodRows : Line → Sheet → List Row → List Row → Type 0

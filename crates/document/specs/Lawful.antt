@@ -4,14 +4,16 @@ use Prim.Native.Nat.{_≤_}
 use mathlib.Core.Path.{_≡_}
 use mathlib.Core.List.{List, [], _∷_}
 use lib.ListN.{length}
-use lib.IntN.{ℤ, pos}
+use mathlib.Core.Bool.{Bool, true, false}
+use mathlib.Core.Option.{Option, none, some}
+use lib.IntN.{ℤ, pos, _+ℤ_}
 use lib.Signed.{_≤ℤ_, _<ℤ_}
-use Rattle.sheet.specs.Firing.{Stuff, Gas, Ware, Water, Stage, Setter, Part, Section, Wall, Firing}
+use Rattle.sheet.specs.Firing.{Stuff, Gas, Ware, Water, Analysis, Stage, Setter, Part, Section, Wall, Firing}
 use Rattle.sheet.specs.Block.{sum, totalGas}
-use Rattle.sheet.specs.Quantities.{edition, firing, product, ambient, heating, fuelTemperature, share, moisture, mass, temperature, material, capacity, flue, cubicMetres, excess, monoxide, minutes, sectionNumber, place, area, stageNumber, surface, nearAir, gasTotal, stagesMost, settersMost, partsMost, sectionsMost, wallsMost, Field, stagesLeast, sectionsLeast}
+use Rattle.sheet.specs.Quantities.{edition, firing, product, ambient, heating, fuelTemperature, share, moisture, mass, temperature, material, capacity, flue, cubicMetres, excess, monoxide, analysedFlue, pair, oxygen, analysisMost, minutes, sectionNumber, place, area, stageNumber, surface, nearAir, gasTotal, stagesMost, settersMost, partsMost, sectionsMost, wallsMost, Field, stagesLeast, sectionsLeast}
 use Rattle.document.specs.Tests.{weigh, airWeights}
 use Rattle.document.specs.Rules.{Every, NoTwo, OwnHeat, SameNumber, Listed, SameReading, AllRead}
-use Rattle.document.specs.Rows.{gasRow}
+use Rattle.document.specs.Rows.{gasRow, analysed}
 
 pub record In (f : Field) (z : ℤ) : Type 0 where
   pub low : f .least ≤ℤ z
@@ -40,12 +42,31 @@ pub record WaterIn (x : Water) : Type 0 where
   pub crystal : In mass (x .crystal)
   pub flue : In flue (x .flue)
 
+-- the temperature of a stage's flue, which with an analysis has another range, and the analysis, beside the stage's CO
+pub record AnalysisIn (T co : ℤ) (a : Analysis) : Type 0 where
+  pub flue : In analysedFlue T
+  pub pair : In pair (a .pair)
+  pub oxygen : In oxygen (a .oxygen)
+  pub together : (co +ℤ a .pair +ℤ a .oxygen) ≤ℤ pos analysisMost  -- 14
+
+abbrev pub FlueIn : ℤ → ℤ → Option Analysis → Type 0
+FlueIn T co none = In flue T
+FlueIn T co (some a) = AnalysisIn T co a
+
 pub record StageIn (x : Stage) : Type 0 where
   pub gas : In cubicMetres (x .gas)
   pub excess : In excess (x .excess)
-  pub flue : In flue (x .flue)
+  pub flue : FlueIn (x .flue) (x .co) (x .analysis)
   pub co : In monoxide (x .co)
   pub minutes : In minutes (x .minutes)
+
+-- a stage has an analysis just where its sheet has one
+abbrev pub has : {A : Type 0} → Option A → Bool
+has none = false
+has (some a) = true
+
+abbrev pub Own : ℤ → Stage → Type 0
+Own edition x = has (x .analysis) ≡ analysed edition
 
 pub record SetterIn (x : Setter) : Type 0 where
   pub mass : In mass (x .mass)
@@ -93,6 +114,7 @@ pub record Lawful (f : Firing) : Type 0 where
   pub water : WaterIn (f .water)
   pub clay : In mass (f .clay)
   pub stages : Every StageIn (f .stages)
+  pub own : Every (Own (f .edition)) (f .stages)
   pub stagesSome : stagesLeast ≤ length (f .stages)
   pub stagesMost : length (f .stages) ≤ stagesMost
   pub total : In gasTotal (totalGas (f .stages))  -- 10

@@ -5,6 +5,7 @@ pub mod Rows
 pub mod Tests
 pub mod Entries
 pub mod Document01
+pub mod Sheet2
 pub mod Editions
 pub mod Rules
 pub mod Lawful

@@ -16,7 +16,7 @@ use Rattle.document.specs.Schema.{Line, Row, plain, lineText}
 use Rattle.document.specs.Reader.{Filled, Sheet, Paragraph, one, many, countLine, filled, paragraphText, rowsText, textOf, behind, behindAll, Refused, readOf}
 use Rattle.document.specs.Editions.{document}
 use Rattle.document.specs.Rows.{sectionOf, editionIn, stagesIn, sectionsIn, wallAs, wallsIn}
-use Rattle.document.specs.Rules.{Some, MaterialKeeps, GasKeeps, SameNumber, Listed, Staged, SameReading, AllRead, TotalKeeps}
+use Rattle.document.specs.Rules.{Some, MaterialKeeps, GasKeeps, AnalysisKeeps, SameNumber, Listed, Staged, SameReading, AllRead, TotalKeeps}
 use Rattle.document.specs.Lawful.{In}
 use Rattle.document.specs.GoodLines.{GoodRows, GoodParagraph, GoodLines}
 use Rattle.document.specs.Faults.{SaysIn, LineFault}
@@ -74,14 +74,15 @@ pub data WallFault (stages : List Stage) (sections : List Section) (above : List
   colder : k ≡ 9 → Listed sections w → Staged stages w → ¬ Some (SameReading w) above → w .surface <ℤ w .air → WallFault stages sections above w k
 
 -- .. with a row, by the rules of its key and given all that stands above it: 4 to 9; 4 names the material's field
-pub data RowFault (key : List ℕ) (above : Sheet) (row : Row) (k i : ℕ) : Type 0 where
-  ofWare : k ≡ 4 → i ≡ 4 → key ≡ bytes "ware" → ¬ MaterialKeeps 3 row → RowFault key above row k i
-  ofSetter : k ≡ 4 → i ≡ 3 → key ≡ bytes "setter" → ¬ MaterialKeeps 2 row → RowFault key above row k i
-  ofPart : k ≡ 4 → i ≡ 2 → key ≡ bytes "part" → ¬ MaterialKeeps 1 row → RowFault key above row k i
-  ofGas : k ≡ 5 → i ≡ 0 → key ≡ bytes "gas" → ¬ GasKeeps row → RowFault key above row k i
-  ofSection : k ≡ 6 → i ≡ 0 → key ≡ bytes "section" → Some (SameNumber (sectionOf row)) (sectionsIn above) → RowFault key above row k i
+pub data RowFault (key : List ℕ) (fields : ℕ) (above : Sheet) (row : Row) (k i : ℕ) : Type 0 where
+  ofWare : k ≡ 4 → i ≡ 4 → key ≡ bytes "ware" → ¬ MaterialKeeps 3 row → RowFault key fields above row k i
+  ofSetter : k ≡ 4 → i ≡ 3 → key ≡ bytes "setter" → ¬ MaterialKeeps 2 row → RowFault key fields above row k i
+  ofPart : k ≡ 4 → i ≡ 2 → key ≡ bytes "part" → ¬ MaterialKeeps 1 row → RowFault key fields above row k i
+  ofStage : k ≡ 14 → i ≡ 0 → key ≡ bytes "stage" → fields ≡ 7 → ¬ AnalysisKeeps row → RowFault key fields above row k i
+  ofGas : k ≡ 5 → i ≡ 0 → key ≡ bytes "gas" → ¬ GasKeeps row → RowFault key fields above row k i
+  ofSection : k ≡ 6 → i ≡ 0 → key ≡ bytes "section" → Some (SameNumber (sectionOf row)) (sectionsIn above) → RowFault key fields above row k i
   ofWall : i ≡ 0 → key ≡ bytes "wall"
-      → WallFault (stagesIn above) (sectionsIn above) (wallsIn above) (wallAs (editionIn above) row) k → RowFault key above row k i
+      → WallFault (stagesIn above) (sectionsIn above) (wallsIn above) (wallAs (editionIn above) row) k → RowFault key fields above row k i
 
 -- .. with a whole sheet: 10, then 8
 pub data WholeFault (stages : List Stage) (sections : List Section) (walls : List Wall) (k : ℕ) : Type 0 where
@@ -104,7 +105,7 @@ pub data First (s : List ℕ) (k n i : ℕ) : Type 0 where
   -- the lines from the top: a line is due, and ..
   ofLine : (a : Looked s) → n ≡ a .at .number → LineFault (a .at .line) (a .at .rest) k i → First s k n i
   ofRule : (a : Looked s) → n ≡ a .at .number → (row : Row) → SaysIn (a .at .line) (a .at .rest) row
-      → RowFault (a .at .line .key) (a .at .above) row k i → First s k n i
+      → RowFault (a .at .line .key) (length (a .at .line .fields)) (a .at .above) row k i → First s k n i
   -- all lines are good, and bytes follow `end`; or nothing follows
   surplus : k ≡ 13 → i ≡ 0 → length s ≤ sheetMost → (sheet : Sheet) (b : ℕ) (left : List ℕ) → AllGood s sheet (b ∷ left) → n ≡ last sheet → First s k n i
   ofAll : n ≡ 0 → i ≡ 0 → (sheet : Sheet) → AllGood s sheet [] → WholeFault (stagesIn sheet) (sectionsIn sheet) (wallsIn sheet) k → First s k n i

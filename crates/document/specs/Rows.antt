@@ -2,9 +2,12 @@
 use Prim.Native.Nat.{ℕ}
 use Prim.Native.String.{String}
 use mathlib.Core.List.{List, [], _∷_, map}
-use lib.IntN.{ℤ}
+use mathlib.Core.Bool.{Bool, cond}
+use mathlib.Core.Option.{Option, none, some}
+use lib.IntN.{ℤ, pos}
 use Rattle.text.specs.Bytes.{bytes}
-use Rattle.sheet.specs.Firing.{Stuff, Fuel, Gas, Ware, Water, Stage, Setter, Part, Section, Wall, Firing}
+use Rattle.sheet.specs.Firing.{Stuff, Fuel, Gas, Ware, Water, Analysis, Stage, Setter, Part, Section, Wall, Firing}
+use Rattle.sheet.specs.Shown.{same}
 use Rattle.document.specs.Schema.{Row, plain, at}
 use Rattle.document.specs.Reader.{Sheet, rowsOf}
 
@@ -54,7 +57,19 @@ abbrev pub stageRow : Stage → Row
 stageRow x = plain (x .gas ∷ x .excess ∷ x .flue ∷ x .co ∷ x .minutes ∷ [])
 
 abbrev pub stageOf : Row → Stage
-stageOf r = record { gas = at r 0; excess = at r 1; flue = at r 2; co = at r 3; minutes = at r 4 }
+stageOf r = record { gas = at r 0; excess = at r 1; flue = at r 2; co = at r 3; analysis = none; minutes = at r 4 }
+
+-- on sheet 2; a stage that was not analysed has no row there, and is given one
+abbrev pub analysisOf : Option Analysis → Analysis
+analysisOf none = record { pair = pos 0; oxygen = pos 0 }
+analysisOf (some a) = a
+
+abbrev pub analysedRow : Stage → Row
+analysedRow x = let a = analysisOf (x .analysis) in plain (x .gas ∷ x .excess ∷ x .flue ∷ x .co ∷ a .pair ∷ a .oxygen ∷ x .minutes ∷ [])
+
+abbrev pub analysedOf : Row → Stage
+analysedOf r =
+    record { gas = at r 0; excess = at r 1; flue = at r 2; co = at r 3; analysis = some (record { pair = at r 4; oxygen = at r 5 }); minutes = at r 6 }
 
 abbrev pub setterRow : Setter → Row
 setterRow x = plain (x .mass ∷ x .entry ∷ x .stuff .material ∷ x .stuff .c ∷ [])
@@ -91,9 +106,16 @@ rowUnder key s = first (rowsOf (bytes key) s)
 abbrev pub editionIn : Sheet → ℤ
 editionIn s = at (rowUnder "sheet" s) 0
 
--- a row of a stage and of a reading, as an edition has it: all have the same columns so far
+-- whether its flue is analysed, as on sheet 2
+abbrev pub analysed : ℤ → Bool
+analysed edition = same edition (pos 2)
+
+-- a row of a stage and of a reading, as an edition has it; a reading has the same columns on all so far
+abbrev pub stageBy : Bool → Row → Stage
+stageBy flue r = cond flue (analysedOf r) (stageOf r)
+
 abbrev pub stageAs : ℤ → Row → Stage
-stageAs edition r = stageOf r
+stageAs edition r = stageBy (analysed edition) r
 
 abbrev pub wallAs : ℤ → Row → Wall
 wallAs edition r = wallOf r

@@ -1,19 +1,20 @@
 -- Document 01's rules in plain words, without tests: what the rules of a line and of the whole sheet ask.
 use Prim.Native.Nat.{ℕ, _+_, _≤_}
 use mathlib.Core.Path.{_≡_}
+use mathlib.Core.Bool.{true}
 use mathlib.Core.List.{List, [], _∷_}
 use mathlib.Core.Logic.{_⊎_}
 use lib.ListN.{length}
-use lib.IntN.{ℤ, pos}
+use lib.IntN.{ℤ, pos, _+ℤ_}
 use lib.Signed.{_≤ℤ_, _<ℤ_}
 use Rattle.text.specs.Bytes.{bytes}
 use Rattle.sheet.specs.Firing.{Stage, Section, Wall}
 use Rattle.sheet.specs.Block.{sum, totalGas}
 use Rattle.document.specs.Schema.{Row, at}
 use Rattle.document.specs.Reader.{Sheet, rowsOf}
-use Rattle.sheet.specs.Quantities.{gasTotal}
+use Rattle.sheet.specs.Quantities.{gasTotal, analysisMost}
 use Rattle.document.specs.Tests.{weigh, airWeights}
-use Rattle.document.specs.Rows.{stagesIn, sectionsIn, wallsIn}
+use Rattle.document.specs.Rows.{editionIn, analysed, stagesIn, sectionsIn, wallsIn}
 
 abbrev pub Some : {A : Type 0} → (A → Type 0) → List A → Type 0
 Some P [] = ⊥
@@ -38,6 +39,10 @@ MaterialKeeps i row = OwnHeat (at row i) (at row (i + 1))
 -- 5: the shares add to 10,000, and theoretical air is above 0
 abbrev pub GasKeeps : Row → Type 0
 GasKeeps row = (sum (λ z. z) (row .numbers) ≡ pos 10000) × (pos 0 <ℤ weigh airWeights (row .numbers))
+
+-- 14: CO, CO2 with SO2 and O2 are together at most 40 %
+abbrev pub AnalysisKeeps : Row → Type 0
+AnalysisKeeps row = ¬ (pos analysisMost <ℤ (at row 3 +ℤ at row 4 +ℤ at row 5))
 
 -- 6: no section above has this number
 abbrev pub SameNumber : Section → Section → Type 0
@@ -78,6 +83,7 @@ pub record KeepsRules (sheet : Sheet) : Type 0 where
   pub setters : Every (MaterialKeeps 2) (rowsOf (bytes "setter") sheet)
   pub parts : Every (MaterialKeeps 1) (rowsOf (bytes "part") sheet)
   pub gas : Every GasKeeps (rowsOf (bytes "gas") sheet)  -- 5
+  pub stages : analysed (editionIn sheet) ≡ true → Every AnalysisKeeps (rowsOf (bytes "stage") sheet)  -- 14
   pub numbered : NoTwo SameNumber (sectionsIn sheet)  -- 6
   pub listed : Every (Listed (sectionsIn sheet)) (wallsIn sheet)
   pub staged : Every (Staged (stagesIn sheet)) (wallsIn sheet)

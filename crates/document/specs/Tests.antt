@@ -7,13 +7,13 @@ use lib.ListN.{length}
 use lib.IntN.{ℤ, pos, negsuc, _+ℤ_, _*ℤ_}
 use lib.Signed.{ltZ}
 use Rattle.sheet.specs.declared.Refusal.{Refusal}
-use Rattle.sheet.specs.declared.Refusal.the-variants.{Material, Shares, SectionTwice, NoSuchWall, ReadTwice, Missing, Colder, GasTotal}
+use Rattle.sheet.specs.declared.Refusal.the-variants.{Material, Shares, SectionTwice, NoSuchWall, ReadTwice, Missing, Colder, GasTotal, Analysis}
 use Rattle.sheet.specs.Shown.{same}
 use Rattle.sheet.specs.Firing.{Stage, Section, Wall}
 use Rattle.sheet.specs.Block.{sum, totalGas}
 use Rattle.document.specs.Schema.{at, within}
 use Rattle.document.specs.Reader.{Sheet, Rule}
-use Rattle.sheet.specs.Quantities.{gasTotal}
+use Rattle.sheet.specs.Quantities.{gasTotal, analysisMost}
 use Rattle.document.specs.Rows.{sectionOf, editionIn, stagesIn, sectionsIn, wallAs, wallsIn}
 
 abbrev pub any : {A : Type 0} → (A → Bool) → List A → Bool
@@ -56,6 +56,10 @@ airWeights = pos 1 ∷ pos 0 ∷ pos 1 ∷ negsuc 1 ∷ pos 0 ∷ pos 0 ∷ pos 
 -- 5: the shares don't add to 10,000, or theoretical air isn't above 0
 abbrev pub gas-rule : Rule
 gas-rule seen row = when (not (same (sum (λ z. z) (row .numbers)) (pos 10000) && ltZ (pos 0) (weigh airWeights (row .numbers)))) Shares
+
+-- 14: CO, CO2 with SO2 and O2 are together more than dry flue can have
+abbrev pub analysis-rule : Rule
+analysis-rule seen row = when (ltZ (pos analysisMost) (at row 3 +ℤ at row 4 +ℤ at row 5)) Analysis
 
 -- 6: a section number stands twice
 abbrev pub isListed : List Section → ℤ → Bool

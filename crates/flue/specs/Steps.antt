@@ -1,11 +1,12 @@
 -- What each formula's code asks: that no step of it leaves an i64, or the ranges from which that follows.
-use Prim.Native.Nat.{_^_}
+use Prim.Native.Nat.{ℕ, _+_, _*_, _/_, _%_, _^_, _-_, _≤_}
 use mathlib.Core.List.{List}
-use lib.IntN.{ℤ, pos, _+ℤ_, _-ℤ_, _*ℤ_}
+use lib.IntN.{ℤ, pos, natAbs, _+ℤ_, _-ℤ_, _*ℤ_}
+use lib.ListN.{getD}
 use mir.Syntax.{w64}
 use mir.Val.{SFits}
 use Rattle.sheet.specs.Firing.{Stage}
-use Rattle.sheet.specs.Quantities.{ambient, moisture}
+use Rattle.sheet.specs.Quantities.{ambient, moisture, analysedFlue}
 use Rattle.document.specs.Rules.{Every}
 use Rattle.document.specs.Lawful.{In, StageIn}
 use Rattle.formulas.specs.Rounding.{paper}
@@ -25,6 +26,17 @@ pub record RateFits (excess air X vapour : ℤ) : Type 0 where
   pub moist : SFits w64 (pos 1293 *ℤ excess *ℤ air *ℤ X)
   pub over : SFits w64 (pos 1293 *ℤ excess *ℤ air *ℤ X *ℤ pos 56)
   pub all : SFits w64 (pos 1293 *ℤ excess *ℤ air *ℤ X *ℤ pos 56 +ℤ vapour)
+
+-- a column of table A.1 as the code has it, and c between two of its rows
+abbrev pub hottest : ℕ
+hottest = natAbs (analysedFlue .greatest)
+
+abbrev pub straight : List ℕ → ℕ → ℕ
+straight column T = getD column (T / 1000) 0 * (1000 - T % 1000) + getD column (T / 1000 + 1) 0 * (T % 1000)
+
+pub record ColumnIn (column : List ℕ) (T : ℕ) : Type 0 where
+  pub entries : Every (λ x. x ≤ 2215) column
+  pub hot : T ≤ hottest
 
 -- a stage that burns a fuel
 pub record BurnsIn (b : Burning) (s : Stage) : Type 0 where

@@ -1,20 +1,22 @@
 // The heat that leaves with the flue gas, stage by stage.
 ghost use mathlib.Core.Path.{_≡_};
-ghost use Prim.Native.Nat.{_*_, _^_};
+ghost use Prim.Native.Nat.{_+_, _*_, _^_, _≤_};
 ghost use lib.IntN.{ℤ, pos, _+ℤ_, _-ℤ_, _*ℤ_};
 ghost use mir.Syntax.{w64};
 ghost use mir.Val.{SFits};
 ghost use Rattle.sheet.specs.Shown.{stage as stageOf};
 ghost use Rattle.sheet.specs.Block.{sum, stagesOf};
+ghost use Rattle.sheet.specs.Quantities.{analysisMost};
+ghost use Rattle.document.specs.Lawful.{StageIn};
 ghost use Rattle.formulas.specs.Rounding.{paper};
 ghost use Rattle.formulas.specs.Formulas.{joule, Burning as AnyBurning};
-ghost use Rattle.formulas.specs.Formulas.{vapourRate, vapour, dryHeat, vapourHeat, flueHeat, monoxideHeat};
+ghost use Rattle.formulas.specs.Formulas.{vapourRate, vapour, analysedHeat, flueCapacity, dryHeat, vapourHeat, flueHeat, monoxideHeat};
 ghost use Rattle.formulas.specs.Figures.{Figure};
 ghost use Rattle.formulas.specs.Sizes.{vapourRateMost, vapourMassMost, dryHeatMost, vapourHeatMost, flueHeatMost, monoxideHeatMost};
 ghost use Rattle.formulas.specs.Sizes.{x7Most, x8Most};
 ghost use Rattle.formulas.specs.Steps.{ProductFits, over};
 ghost use Rattle.burning.specs.Mixture.{burning as burningOf};
-ghost use Rattle.flue.specs.Steps.{DryFits, RateFits, BurnsIn, Volume, FilledIn, DryIn, MoistIn, FlueIn, AllFlueIn};
+ghost use Rattle.flue.specs.Steps.{hottest, straight, ColumnIn, DryFits, RateFits, BurnsIn, Volume, FilledIn, DryIn, MoistIn, FlueIn, AllFlueIn};
 use burning::mixture::Burning;
 use formulas::rounding::Quotient;
 use quantity::gas::CarbonMonoxide;
@@ -111,6 +113,110 @@ fn vapour(burning: Burning, moisture: Moisture, stage: Stage) -> VapourMass
     )
 }
 
+// How many rows of table A.1 a flue can be between: each has one above it, and the last, at 1,000 °C, a row of 0 that counts for nothing.
+const FLUE_ROWS: usize = 12;
+
+// Table A.1 of the gases of dry flue: c at 0, 100, .. 1,000 °C, in 0.001 kJ/(m³·°C).
+const MONOXIDE: [u64; FLUE_ROWS] = [
+    1300,
+    1301,
+    1308,
+    1317,
+    1329,
+    1342,
+    1359,
+    1372,
+    1388,
+    1400,
+    1413,
+    0,
+];
+
+const DIOXIDE: [u64; FLUE_ROWS] = [
+    1597,
+    1697,
+    1793,
+    1877,
+    1923,
+    1998,
+    2052,
+    2098,
+    2140,
+    2178,
+    2215,
+    0,
+];
+
+const OXYGEN: [u64; FLUE_ROWS] = [
+    1304,
+    1317,
+    1333,
+    1354,
+    1375,
+    1396,
+    1414,
+    1434,
+    1450,
+    1463,
+    1476,
+    0,
+];
+
+const NITROGEN: [u64; FLUE_ROWS] = [
+    1296,
+    1300,
+    1301,
+    1304,
+    1317,
+    1325,
+    1338,
+    1354,
+    1367,
+    1379,
+    1392,
+    0,
+];
+
+// c of a gas at a temperature, straight between two rows of its column: in 1e-6 kJ/(m³·°C).
+fn column_at(column: [u64; FLUE_ROWS], t: u64) -> u64
+    requires { ⌜ ColumnIn column t ⌝ }
+    ensures { λ r. ⌜ r ≡ straight column t ⌝ }
+{
+    let row = (t / 1000) as usize;
+    let above = t % 1000;
+    let below = 1000 - above;
+    column[row] * below + column[row + 1] * above
+}
+
+// Formula 4 over four gases: nitrogen is the rest. In 1e-10 kJ/(m³·°C).
+fn analysed_heat(co: u64, pair: u64, oxygen: u64, t: u64) -> u64
+    requires { ⌜ (co + pair + oxygen ≤ analysisMost) × (t ≤ hottest) ⌝ }
+    ensures { λ r. ⌜ r ≡ analysedHeat co pair oxygen t ⌝ }
+{
+    let rest = 10_000 - (co + pair + oxygen);
+    co * column_at(MONOXIDE, t)
+        + pair * column_at(DIOXIDE, t)
+        + oxygen * column_at(OXYGEN, t)
+        + rest * column_at(NITROGEN, t)
+}
+
+// c of a stage's dry flue: 1.384, or by what an analyser says of it.
+fn flue_capacity(stage: Stage) -> FlueCapacity
+    requires { ⌜ StageIn (stageOf stage) ⌝ }
+    ensures { λ r. ⌜ r .0 ≡ flueCapacity (stageOf stage) ⌝ }
+{
+    let analysis = stage.analysis;
+    if !analysis.read {
+        return FlueCapacity(1384);
+    }
+    let co = stage.co.0 as u64;
+    let pair = analysis.pair.0 as u64;
+    let oxygen = analysis.oxygen.0 as u64;
+    let t = stage.flue.0 as u64;
+    let heat = analysed_heat(co, pair, oxygen, t);
+    FlueCapacity(Quotient(heat as i64, 10_000_000).units().0)
+}
+
 // V c (flue − t) of the dry flue gas.
 fn dry_carried(volume: DryFlue, c: FlueCapacity, rise: Rise) -> Quotient
     requires { ⌜ ProductFits (volume .0) (c .0) (rise .0) ⌝ }
@@ -176,7 +282,7 @@ fn stage_heats(burning: Burning, moisture: Moisture, stage: Stage, t: Degrees) -
     ensures { λ r. ⌜ Figure joule monoxideHeatMost (r .x8 .0) (monoxideHeat paper (burningOf burning) (stageOf stage)) ⌝ }
 {
     let volume = dry_flue(burning, stage);
-    let c = FlueCapacity(1384);
+    let c = flue_capacity(stage);
     let dry = dry_heat(volume, c, stage, t);
     let x7 = dry.plus(vapour_heat(burning, moisture, stage, t));
     let x8 = monoxide_heat(volume, stage);

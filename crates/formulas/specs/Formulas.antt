@@ -1,18 +1,20 @@
 -- Document 01, "From reading to joules": each formula once, over a way of rounding. Heats are whole numbers of a unit so small that no
 -- unrounded heat has a fraction: `joule` of them are one joule.
-use Prim.Native.Nat.{ℕ, _*_, _/_, _^_, _-_}
+use Prim.Native.Nat.{ℕ, _+_, _*_, _/_, _%_, _^_, _-_}
 use mathlib.Core.Bool.{cond}
+use mathlib.Core.Option.{Option, none, some}
 use mathlib.Core.List.{List, [], _∷_, map}
 use lib.Dec.{eqb}
 use lib.IntN.{ℤ, pos, natAbs, _+ℤ_, _-ℤ_, _*ℤ_}
 use lib.ListN.{getD}
-use Rattle.sheet.specs.Firing.{Stuff, Gas, Stage, Section, Wall, Firing}
+use Rattle.sheet.specs.Firing.{Stuff, Gas, Analysis, Stage, Section, Wall, Firing}
+use Rattle.arith.specs.Nearest.{nearestℕ}
 use Rattle.sheet.specs.Shown.{same}
 use Rattle.sheet.specs.Block.{sum, totalGas}
 use Rattle.document.specs.Tests.{weigh}
 use Rattle.document.specs.Rows.{gasRow}
 use Rattle.formulas.specs.Rounding.{Rounding}
-use Rattle.formulas.specs.Tables.{rowOf, straightAt, tableA1}
+use Rattle.formulas.specs.Tables.{rowOf, straightAt, tableA1, FlueGases, flueRow}
 
 -- 56 because of 18/22.4, 10^17 by the finest product
 abbrev pub joule : ℕ
@@ -108,9 +110,24 @@ ofGas g = record { air = theoreticalAir g; dry = dryOfGas g *ℤ pos (10 ^ 5); v
 abbrev pub burning : Firing → Burning
 burning f = ofGas (f .gas)
 
--- c of a stage's dry flue in 0.001 kJ/(m³·°C)
-abbrev pub flueCapacity : Stage → ℤ
-flueCapacity s = pos 1384
+-- C OF A STAGE'S DRY FLUE in 0.001 kJ/(m³·°C): 1.384, or by T-03 formula 4 over what the analyser says. A gas's column is straight between the
+-- rows of table A.1 at T, in 0.1 °C: here in 1e-6 kJ/(m³·°C)
+abbrev pub columnAt : (FlueGases → ℕ) → ℕ → ℕ
+columnAt gas T = gas (flueRow (T / 1000)) * (1000 - T % 1000) + gas (flueRow (T / 1000 + 1)) * (T % 1000)
+
+-- CO, CO2 with SO2 in CO2's column, O2, and nitrogen for the rest, in 1e-10 kJ/(m³·°C); shares in 0.01 %
+unfoldable pub analysedHeat : ℕ → ℕ → ℕ → ℕ → ℕ
+analysedHeat co pair oxygen T =
+    co * columnAt (λ g. g .co) T + pair * columnAt (λ g. g .co2) T + oxygen * columnAt (λ g. g .o2) T
+    + (10000 - (co + pair + oxygen)) * columnAt (λ g. g .n2) T
+
+-- rounded once, to 0.001, which is taken as given as 1.384 is: it goes through no `Rounding`
+abbrev pub capacityBy : Stage → Option Analysis → ℕ
+capacityBy s none = 1384
+capacityBy s (some a) = nearestℕ (analysedHeat (natAbs (s .co)) (natAbs (a .pair)) (natAbs (a .oxygen)) (natAbs (s .flue))) (10 ^ 7)
+
+unfoldable pub flueCapacity : Stage → ℤ
+flueCapacity s = pos (capacityBy s (s .analysis))
 
 module _ (r : Rounding) where
   -- (B.10) with (B.4): a stage's dry flue in 1e-10 m³, to 1e-5 m³
@@ -157,7 +174,7 @@ abbrev pub noSection : Section
 noSection = record { number = pos 0; place = pos 0; area = pos 0 }
 
 abbrev pub noStage : Stage
-noStage = record { gas = pos 0; excess = pos 0; flue = pos 0; co = pos 0; minutes = pos 0 }
+noStage = record { gas = pos 0; excess = pos 0; flue = pos 0; co = pos 0; analysis = none; minutes = pos 0 }
 
 unfoldable pub numbered : ℤ → List Section → Section
 numbered n [] = noSection

@@ -2,16 +2,17 @@
 -- one proof, by computation.
 use Prim.Native.Nat.{ℕ, _*_, _/_, _^_}
 use mathlib.Core.Bool.{Bool, true, _&&_}
+use mathlib.Core.Option.{none, some}
 use mathlib.Core.List.{List, [], _∷_}
 use lib.Dec.{T, eqb}
 use lib.IntN.{ℤ, pos}
 use Rattle.arith.specs.Nearest.{nearest, nearestℕ, tie}
 use Rattle.arith.specs.Root.{root, rootIn}
-use Rattle.sheet.specs.Firing.{Gas, Stuff, Water, Stage, Section, Wall, Firing}
+use Rattle.sheet.specs.Firing.{Gas, Stuff, Water, Analysis, Stage, Section, Wall, Firing}
 use Rattle.sheet.specs.Shown.{same}
 use Rattle.sheet.specs.Block.{sum}
 use Rattle.formulas.specs.Rounding.{paper}
-use Rattle.formulas.specs.Formulas.{joule, specificHeat, sensible, mixedHeat, gasHeat, theoreticalAir, dryOfGas, vapourOfGas, ofGas, dryFlue, vapourRate, vapour, dryHeat, vapourHeat, flueHeat, monoxideHeat, numbered, convection, radiation, flux, wallHeat, q1, q2, q3, q5, q8, x1, x2, x3, x5, x7, x8, x9, x10, waterHeat, useful, withset}
+use Rattle.formulas.specs.Formulas.{joule, specificHeat, sensible, mixedHeat, gasHeat, theoreticalAir, dryOfGas, vapourOfGas, ofGas, dryFlue, vapourRate, vapour, dryHeat, vapourHeat, flueHeat, monoxideHeat, flueCapacity, analysedHeat, numbered, convection, radiation, flux, wallHeat, q1, q2, q3, q5, q8, x1, x2, x3, x5, x7, x8, x9, x10, waterHeat, useful, withset}
 use Rattle.formulas.specs.Items.{shuttle, total, x11}
 use Rattle.formulas.specs.Report.{heat, share, printed}
 
@@ -40,7 +41,13 @@ abbrev only : ℕ → Stuff
 only m = record { material = pos m; c = pos 0 }
 
 abbrev stage : Stage
-stage = record { gas = pos 2000; excess = pos 1100; flue = pos 8200; co = pos 0; minutes = pos 600 }
+stage = record { gas = pos 2000; excess = pos 1100; flue = pos 8200; co = pos 0; analysis = none; minutes = pos 600 }
+
+-- CO, CO2 with SO2, O2 and the flue's temperature, as an analyser says them
+abbrev analysed : ℕ → ℕ → ℕ → ℕ → Stage
+analysed co pair oxygen flue =
+    let said : Analysis = record { pair = pos pair; oxygen = pos oxygen } in
+    record { gas = pos 2000; excess = pos 1100; flue = pos flue; co = pos co; analysis = some said; minutes = pos 600 }
 
 abbrev section : Section
 section = record { number = pos 3; place = pos 2; area = pos 1000 }
@@ -118,6 +125,17 @@ cases =
     -- printed per tonne, 2,049,277.5 is 2,049,278; and over q1, in 0.01 %
     ∷ case (printed worked (heat useful)) 2049278 1
     ∷ case (printed worked (share useful)) 2928 1
+    -- T-03: c before and after it is rounded, and a tie
+    ∷ case (flueCapacity stage) 1384 1
+    ∷ case (flueCapacity (analysed 0 0 0 0)) 1296 1
+    ∷ case (pos (analysedHeat 0 1050 190 8200)) 14526918 1000
+    ∷ case (flueCapacity (analysed 0 1050 190 8200)) 1453 1
+    ∷ case (pos (analysedHeat 50 860 420 2350)) 13484542 1000
+    ∷ case (flueCapacity (analysed 50 860 420 2350)) 1348 1
+    ∷ case (pos (analysedHeat 0 2500 1500 10000)) 16103500 1000
+    ∷ case (flueCapacity (analysed 0 2500 1500 10000)) 1610 1
+    ∷ case (flueCapacity (analysed 0 1400 0 250)) 1342 1
+    ∷ case (flueHeat paper (ofGas methane) (pos 0) (pos 200) (analysed 0 1050 190 8200)) 2698522258 joule
     -- T-04, which none of these tells from halves away from zero: 1,876,132.5 is 1,876,132, and 2,476,132.5 is 2,476,132
     ∷ case (printed noCrystal (heat useful)) 1876132 1
     ∷ case (printed noCrystal (heat withset)) 2476132 1
@@ -128,7 +146,7 @@ holds [] = true
 holds (c ∷ l) = same (c .computed) (pos (c .said * c .unit)) && holds l
 
 marked : T (holds cases)
-unfolding holds cases printed nearest nearestℕ tie root rootIn sum specificHeat sensible mixedHeat gasHeat theoreticalAir dryOfGas vapourOfGas ofGas dryFlue vapourRate
+unfolding holds cases flueCapacity analysedHeat printed nearest nearestℕ tie root rootIn sum specificHeat sensible mixedHeat gasHeat theoreticalAir dryOfGas vapourOfGas ofGas dryFlue vapourRate
     vapour dryHeat vapourHeat flueHeat monoxideHeat numbered convection radiation flux wallHeat
     q1 q2 q3 q5 q8 x1 x2 x3 x5 x7 x8 x9 x10 total x11 waterHeat useful withset
 marked = tt

@@ -3,8 +3,8 @@
 use Prim.Native.Nat.{ℕ, _+_, _*_, _/_, _^_, _-_, max}
 use mathlib.Core.List.{List, [], _∷_}
 use lib.IntN.{ℤ, pos, natAbs, _+ℤ_, _-ℤ_, _*ℤ_}
-use Rattle.sheet.specs.Quantities.{ambient, heating, fuelTemperature, share, moisture, mass, temperature, capacity, flue, cubicMetres, excess, monoxide, minutes, area, surface, nearAir, gasTotal, stagesMost, settersMost, partsMost, sectionsMost, Field}
-use Rattle.formulas.specs.Tables.{tableA1}
+use Rattle.sheet.specs.Quantities.{ambient, heating, fuelTemperature, share, moisture, mass, temperature, capacity, flue, pair, analysisMost, cubicMetres, excess, monoxide, minutes, area, surface, nearAir, gasTotal, stagesMost, settersMost, partsMost, sectionsMost, Field}
+use Rattle.formulas.specs.Tables.{tableA1, flueRow}
 use Rattle.formulas.specs.Formulas.{placed, fourth}
 
 -- ---- The rules: a quantity; the difference of two; an entry of a table's column
@@ -102,7 +102,16 @@ vapourRateMost = upTo (1293 * greatest excess * airMost * greatest moisture * 56
 abbrev pub vapourMassMost : ℕ
 vapourMassMost = upTo (vapourRateMost * greatest cubicMetres) (10 ^ 4)
 
--- c (flue − t) of a m³ of dry flue, and a stage's heats
+-- c of analysed flue: no gas has more than its column's last row. CO2 has most above nitrogen, O2 less, CO least
+abbrev pub analysedHeatMost : ℕ
+analysedHeatMost =
+    let last = flueRow 10 in
+    (10000 * last .n2 + greatest pair * (last .co2 - last .n2) + (analysisMost - greatest pair) * (last .o2 - last .n2)) * 1000
+
+abbrev pub analysedMost : ℕ
+analysedMost = upTo analysedHeatMost (10 ^ 7)
+
+-- c (flue − t) of a m³ of dry flue, which is no more where the flue is analysed, and a stage's heats
 abbrev pub carriedMost : ℕ
 carriedMost = 1384 * apart flue ambient
 

@@ -68,3 +68,35 @@ tableA1 =
     ∷ between 1530 1559  -- H2S
     ∷ between 1777 1860  -- SO2
     ∷ []
+
+-- Table A.1 of the gases of dry flue: c at 0, 100, .. 1,000 °C in 0.001 kJ/(m³·°C), as printed
+pub record FlueGases : Type 0 where
+  pub co : ℕ
+  pub co2 : ℕ
+  pub o2 : ℕ
+  pub n2 : ℕ
+
+abbrev at : ℕ → ℕ → ℕ → ℕ → FlueGases
+at a b c d = record { co = a; co2 = b; o2 = c; n2 = d }
+
+abbrev pub flueTable : List FlueGases
+flueTable =
+    at 1300 1597 1304 1296  -- 0 °C
+    ∷ at 1301 1697 1317 1300
+    ∷ at 1308 1793 1333 1301
+    ∷ at 1317 1877 1354 1304
+    ∷ at 1329 1923 1375 1317
+    ∷ at 1342 1998 1396 1325
+    ∷ at 1359 2052 1414 1338
+    ∷ at 1372 2098 1434 1354
+    ∷ at 1388 2140 1450 1367
+    ∷ at 1400 2178 1463 1379
+    ∷ at 1413 2215 1476 1392  -- 1,000 °C
+    ∷ []
+
+-- 0 beyond the last, where it counts for nothing
+abbrev pub noRow : FlueGases
+noRow = at 0 0 0 0
+
+abbrev pub flueRow : ℕ → FlueGases
+flueRow i = getD flueTable i noRow

@@ -46,6 +46,14 @@ module _ {z : ℤ} (fits : SFits w32 z) where
   pub widened : toZ w64 (ofZ w64 (toZ w32 (ofZ w32 z))) ≡ z
   widened = cast-is fits (sfits-widen tt fits)
 
+-- So is what is kept in 16.
+module _ {z : ℤ} (fits : SFits w16 z) where
+  pub widens16 : SFits w64 (toZ w16 (ofZ w16 z))
+  widens16 = cast-fits fits (sfits-widen tt fits)
+
+  pub widened16 : toZ w64 (ofZ w64 (toZ w16 (ofZ w16 z))) ≡ z
+  widened16 = cast-is fits (sfits-widen tt fits)
+
 -- What a need is handed of a number that is kept in 32 bits is its bound alone.
 pub held : {z : ℤ} → mag z < 2 ^ hbits w32 → SFits w64 z
 held bound = sfits-widen {w = w32} tt (sfits-of bound)

@@ -129,7 +129,8 @@ impl ExcessAir {
 }
 
 // Carbon monoxide in the dry flue gas, in 0.01 %.
-pub struct CarbonMonoxide(pub i32);
+// So written for the compiler: docs/DECISIONS.md, "A quantity is kept in 32 bits and counted with in 64".
+pub struct CarbonMonoxide(pub i16);
 
 pub struct CarbonMonoxideRead {
     pub value: CarbonMonoxide,
@@ -153,7 +154,59 @@ impl CarbonMonoxide {
             field,
         );
         CarbonMonoxideRead {
-            value: CarbonMonoxide(read.value),
+            value: CarbonMonoxide(read.value as i16),
+            fault: read.fault,
+        }
+    }
+}
+
+// Carbon dioxide with sulphur dioxide in the dry flue gas, as an analyser takes them together, in 0.01 %.
+// So written for the compiler: docs/DECISIONS.md, "A quantity is kept in 32 bits and counted with in 64".
+pub struct Dioxides(pub i16);
+
+pub struct DioxidesRead {
+    pub value: Dioxides,
+    pub fault: usize,
+}
+
+impl Dioxides {
+    pub const LEAST: i32 = 0;
+
+    pub const GREATEST: i32 = 2_500;
+
+    // Checks the pair of a line `stage` of sheet 2.
+    pub fn checked(v: Number, fault: usize, field: usize) -> DioxidesRead
+        ensures { λ r. do ⌜ Measured (← ⟦Dioxides::LEAST⟧ .entry) (← ⟦Dioxides::GREATEST⟧ .entry) (v .0) fault field (r .value .0) (r .fault) ⌝ }
+    {
+        let read = measured(v, Dioxides::LEAST, Dioxides::GREATEST, fault, field);
+        DioxidesRead {
+            value: Dioxides(read.value as i16),
+            fault: read.fault,
+        }
+    }
+}
+
+// Oxygen in the dry flue gas, in 0.01 %.
+// So written for the compiler: docs/DECISIONS.md, "A quantity is kept in 32 bits and counted with in 64".
+pub struct Oxygen(pub i16);
+
+pub struct OxygenRead {
+    pub value: Oxygen,
+    pub fault: usize,
+}
+
+impl Oxygen {
+    pub const LEAST: i32 = 0;
+
+    pub const GREATEST: i32 = 2_100;
+
+    // Checks the oxygen of a line `stage` of sheet 2.
+    pub fn checked(v: Number, fault: usize, field: usize) -> OxygenRead
+        ensures { λ r. do ⌜ Measured (← ⟦Oxygen::LEAST⟧ .entry) (← ⟦Oxygen::GREATEST⟧ .entry) (v .0) fault field (r .value .0) (r .fault) ⌝ }
+    {
+        let read = measured(v, Oxygen::LEAST, Oxygen::GREATEST, fault, field);
+        OxygenRead {
+            value: Oxygen(read.value as i16),
             fault: read.fault,
         }
     }

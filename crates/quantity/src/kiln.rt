@@ -31,7 +31,8 @@ impl StageNumber {
 }
 
 // How long a stage lasts, in minutes.
-pub struct Minutes(pub i32);
+// So written for the compiler: docs/DECISIONS.md, "A quantity is kept in 32 bits and counted with in 64".
+pub struct Minutes(pub i16);
 
 pub struct MinutesRead {
     pub value: Minutes,
@@ -49,7 +50,7 @@ impl Minutes {
     {
         let read = measured(v, Minutes::LEAST, Minutes::GREATEST, fault, field);
         MinutesRead {
-            value: Minutes(read.value),
+            value: Minutes(read.value as i16),
             fault: read.fault,
         }
     }

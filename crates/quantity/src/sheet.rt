@@ -15,7 +15,7 @@ pub struct EditionRead {
 impl Edition {
     pub const LEAST: usize = 1;
 
-    pub const GREATEST: usize = 1;
+    pub const GREATEST: usize = 2;
 
     // Checks the field of the line `sheet`.
     pub fn checked(v: Number, fault: usize, field: usize) -> EditionRead

@@ -111,7 +111,8 @@ impl FuelTemperature {
 }
 
 // The temperature of the flue gas, in tenths of a degree Celsius.
-pub struct FlueTemperature(pub i32);
+// So written for the compiler: docs/DECISIONS.md, "A quantity is kept in 32 bits and counted with in 64".
+pub struct FlueTemperature(pub i16);
 
 pub struct FlueTemperatureRead {
     pub value: FlueTemperature,
@@ -135,7 +136,7 @@ impl FlueTemperature {
             field,
         );
         FlueTemperatureRead {
-            value: FlueTemperature(read.value),
+            value: FlueTemperature(read.value as i16),
             fault: read.fault,
         }
     }
@@ -144,7 +145,46 @@ impl FlueTemperature {
     pub fn degrees(self) -> Degrees
         ensures { λ r. ⌜ r .0 ≡ self .0 ⌝ }
     {
-        Degrees(self.0)
+        Degrees(self.0 as i32)
+    }
+}
+
+// The temperature of a flue gas that is analysed: up to the last row of table A.1, in tenths of a degree Celsius.
+// So written for the compiler: docs/DECISIONS.md, "A quantity is kept in 32 bits and counted with in 64".
+pub struct AnalysedFlueTemperature(pub i16);
+
+pub struct AnalysedFlueTemperatureRead {
+    pub value: AnalysedFlueTemperature,
+    pub fault: usize,
+}
+
+impl AnalysedFlueTemperature {
+    pub const LEAST: i32 = 0;
+
+    pub const GREATEST: i32 = 10_000;
+
+    // Checks the flue temperature of a line `stage` of sheet 2.
+    pub fn checked(v: Number, fault: usize, field: usize) -> AnalysedFlueTemperatureRead
+        ensures { λ r. do ⌜ Measured (← ⟦AnalysedFlueTemperature::LEAST⟧ .entry) (← ⟦AnalysedFlueTemperature::GREATEST⟧ .entry) (v .0) fault field (r .value .0) (r .fault) ⌝ }
+    {
+        let read = measured(
+            v,
+            AnalysedFlueTemperature::LEAST,
+            AnalysedFlueTemperature::GREATEST,
+            fault,
+            field,
+        );
+        AnalysedFlueTemperatureRead {
+            value: AnalysedFlueTemperature(read.value as i16),
+            fault: read.fault,
+        }
+    }
+
+    // The same temperature where any flue's may stand.
+    pub fn of_flue(self) -> FlueTemperature
+        ensures { λ r. ⌜ r .0 ≡ self .0 ⌝ }
+    {
+        FlueTemperature(self.0)
     }
 }
 

@@ -237,7 +237,7 @@ denied-judged s r h e = here (readOf document s) refl h
 
 -- all three are small
 pub record Small (n m i : ℕ) : Type 0 where
-  pub number : n ≤ 13
+  pub number : n ≤ 14
   pub line : m ≤ sheetMost + 1
   pub field : i ≤ fieldsMost
 

@@ -1,6 +1,8 @@
 -- No second outcome fits: what a struct shows, and that nothing else stands in it, leave no field open. Assumes nothing.
 use Prim.Native.Nat.{ℕ, zero, suc, _+_, _-_, _≤_}
 use mathlib.Core.Path.{_≡_, refl, sym, ap, ap₂, _∙_}
+use mathlib.Core.Bool.{Bool, true, false, cond}
+use mathlib.Core.Option.{Option, none, some}
 use mathlib.Core.List.{List, [], _∷_, _++_, map}
 use native.Mathlib.Omega.{arith}
 use lib.IntN.{ℤ, pos, natAbs}
@@ -8,35 +10,49 @@ use lib.ListN.{length, length-map, getD, take, drop, replicate, drop-of-length-l
 use lib.Seq.{drop-cons, length-take-le}
 use Rattle.quantity.specs.declared.gas.Share.{Share}
 use Rattle.sheet.specs.declared.Stuff.{Stuff as Stuffˢ}
+use Rattle.sheet.specs.declared.Analysis.{Analysis as Analysisˢ}
 use Rattle.sheet.specs.declared.Stage.{Stage as Stageˢ}
 use Rattle.sheet.specs.declared.Setter.{Setter as Setterˢ}
 use Rattle.sheet.specs.declared.Part.{Part as Partˢ}
 use Rattle.sheet.specs.declared.Section.{Section as Sectionˢ}
 use Rattle.sheet.specs.declared.Sheet.{Sheet as Sheetˢ}
-use Rattle.sheet.specs.Firing.{Stuff, Gas, Firing}
-use Rattle.sheet.specs.Shown.{stuff, gas, stage, setter, part, section, firing, Shows}
+use Rattle.sheet.specs.Firing.{Stuff, Gas, Analysis, Firing}
+use Rattle.sheet.specs.Shown.{stuff, gas, analysis, stage, setter, part, section, firing, Shows}
+use Rattle.sheet.specs.Blank.{noAnalysis}
 use Rattle.sheet.specs.Quantities.{gases}
 use Rattle.document.specs.Reader.{Sheet, Answer, Refused, Good}
+use Rattle.document.specs.Rules.{Every}
 use Rattle.document.specs.Rows.{gasRow, firingOf}
 use Rattle.document.proofs.Cases.{clash}
 use Rattle.reader.specs.declared.all.Lines.{Lines}
-use Rattle.reader.specs.All.{Blanked, Trimmed}
+use Rattle.reader.specs.All.{Settled, Blanked, Trimmed}
 use Rattle.reader.specs.declared.whole.Outcome.{Outcome}
 use Rattle.reader.specs.Whole.{Judged, Answers}
 
--- ---- A LIST by what it shows, where no two things show the same
-module _ {A B : Type 0} (g : A → B) (one : (x y : A) → g x ≡ g y → x ≡ y) where
-  map-one : (l m : List A) → map g l ≡ map g m → l ≡ m
-  map-one [] [] e = refl
-  map-one [] (y ∷ m) e = clash cc
-  map-one (x ∷ l) [] e = clash cc
-  map-one (x ∷ l) (y ∷ m) e =
+-- ---- A LIST by what it shows, where no two things of which C holds show the same
+abbrev Any : {A : Type 0} → A → Type 0
+Any x = Unit {0}
+
+all-any : {A : Type 0} (l : List A) → Every Any l
+all-any [] = tt
+all-any (x ∷ l) = (tt, all-any l)
+
+any : {A B : Type 0} {g : A → B} → ((x y : A) → g x ≡ g y → x ≡ y) → (x y : A) → Any x → Any y → g x ≡ g y → x ≡ y
+any one x y p q = one x y
+
+module _ {A B : Type 0} (g : A → B) (C : A → Type 0) (one : (x y : A) → C x → C y → g x ≡ g y → x ≡ y) where
+  map-one : (l m : List A) → Every C l → Every C m → map g l ≡ map g m → l ≡ m
+  map-one [] [] p q e = refl
+  map-one [] (y ∷ m) p q e = clash cc
+  map-one (x ∷ l) [] p q e = clash cc
+  map-one (x ∷ l) (y ∷ m) p q e =
       let first : g x ≡ g y = cc in
       let rest : map g l ≡ map g m = cc in
-      ap₂ _∷_ (one x y first) (map-one l m rest)
+      ap₂ _∷_ (one x y (p .0) (q .0) first) (map-one l m (p .1) (q .1) rest)
 
   -- a block: as many lines as it counts, and blanks
-  module _ {blank : A} {most c d : ℕ} {l m : List A} (t : Blanked blank most c l) (u : Blanked blank most d m) (e : map g (take c l) ≡ map g (take d m)) where
+  module _ {blank : A} {most c d : ℕ} {l m : List A} (t : Blanked blank most c l) (u : Blanked blank most d m)
+      (p : Every C (take c l)) (q : Every C (take d m)) (e : map g (take c l) ≡ map g (take d m)) where
     shown-count : {k : ℕ} {xs : List A} → Blanked blank most k xs → length (map g (take k xs)) ≡ k
     shown-count {k} {xs} b = length-map (take k xs) g ∙ length-take-le k xs (omega (arith, b .long, b .fits))
 
@@ -46,18 +62,53 @@ module _ {A B : Type 0} (g : A → B) (one : (x y : A) → g x ≡ g y → x ≡
     same-lines : l ≡ m
     same-lines =
         let blanks : drop c l ≡ drop d m = t .rest ∙ ap (λ (k : ℕ). replicate (most - k) blank) same-count ∙ sym (u .rest) in
-        sym (take-append-drop c l) ∙ ap₂ _++_ (map-one (take c l) (take d m) e) blanks ∙ take-append-drop d m
+        sym (take-append-drop c l) ∙ ap₂ _++_ (map-one (take c l) (take d m) p q e) blanks ∙ take-append-drop d m
+
+-- the same of things of which nothing is asked
+module _ {A B : Type 0} (g : A → B) (one : (x y : A) → g x ≡ g y → x ≡ y) {blank : A} {most c d : ℕ} {l m : List A}
+    (t : Blanked blank most c l) (u : Blanked blank most d m) (e : map g (take c l) ≡ map g (take d m)) where
+  any-count : c ≡ d
+  any-count = same-count g Any (any one) t u (all-any (take c l)) (all-any (take d m)) e
+
+  any-lines : l ≡ m
+  any-lines = same-lines g Any (any one) t u (all-any (take c l)) (all-any (take d m)) e
 
 -- ---- THE RECORDS: no two structs show the same
 stuff-one : (x y : Stuffˢ) → stuff x ≡ stuff y → x ≡ y
 stuff-one x y e = λ i. record { material = record { 0 = ap (λ (z : Stuff). natAbs (z .material)) e i }; c = record { 0 = ap (λ (z : Stuff). z .c) e i } }
 
-stage-one : (x y : Stageˢ) → stage x ≡ stage y → x ≡ y
-stage-one x y e = λ i. record {
+-- of an analysis that was read, and of none, nothing else is open
+said-one : {a b : Analysis} → some a ≡ some b → (a .pair ≡ b .pair) × (a .oxygen ≡ b .oxygen)
+said-one {a} {b} e = let f : a ≡ b = cc in (ap (λ (z : Analysis). z .pair) f, ap (λ (z : Analysis). z .oxygen) f)
+
+analysis-one : (x y : Analysisˢ) → (x .read ≡ false → x ≡ noAnalysis) → (y .read ≡ false → y ≡ noAnalysis) → analysis x ≡ analysis y → x ≡ y
+analysis-one x y p q e = go (x .read) (y .read) refl refl
+  where
+    of : Analysisˢ → Bool → Option Analysis
+    of z t = cond t (some (record { pair = z .pair .0; oxygen = z .oxygen .0 })) none
+
+    shown : {a b : Bool} → x .read ≡ a → y .read ≡ b → of x a ≡ of y b
+    shown h k = sym (ap (of x) h) ∙ e ∙ ap (of y) k
+
+    go : (a b : Bool) → x .read ≡ a → y .read ≡ b → x ≡ y
+    go false false h k = p h ∙ sym (q k)
+    go true true h k =
+        let both = said-one (shown h k) in
+        λ i. record { read = (h ∙ sym k) i; pair = record { 0 = both .0 i }; oxygen = record { 0 = both .1 i } }
+    go true false h k =
+        let apart = shown h k in
+        clash cc
+    go false true h k =
+        let apart = shown h k in
+        clash cc
+
+stage-one : (x y : Stageˢ) → Settled x → Settled y → stage x ≡ stage y → x ≡ y
+stage-one x y p q e = λ i. record {
   gas = record { 0 = ap (λ z. z .gas) e i };
   excess = record { 0 = ap (λ z. z .excess) e i };
   flue = record { 0 = ap (λ z. z .flue) e i };
   co = record { 0 = ap (λ z. z .co) e i };
+  analysis = analysis-one (x .analysis) (y .analysis) p q (ap (λ z. z .analysis) e) i;
   minutes = record { 0 = ap (λ z. z .minutes) e i };
 }
 
@@ -97,7 +148,8 @@ shares-are l h = numbers-at 0 gases (map (λ (x : Share). x .0) l) (length-map l
 
 gas-one : (l m : List Share) → length l ≡ gases → length m ≡ gases → gas l ≡ gas m → l ≡ m
 gas-one l m h k e =
-    map-one (λ (x : Share). x .0) (λ x y q i. record { 0 = q i }) l m (sym (shares-are l h) ∙ ap (λ (z : Gas). gasRow z .numbers) e ∙ shares-are m k)
+    map-one (λ (x : Share). x .0) Any (λ x y p q e i. record { 0 = e i }) l m (all-any l) (all-any m)
+    (sym (shares-are l h) ∙ ap (λ (z : Gas). gasRow z .numbers) e ∙ shares-are m k)
 
 -- ---- THE SHEET: nothing stands in the struct but what it shows
 module _ (f : Firing) (x y : Sheetˢ) (a : Shows x f) (b : Shows y f) (t : Trimmed x) (u : Trimmed y) where
@@ -141,20 +193,20 @@ module _ (f : Firing) (x y : Sheetˢ) (a : Shows x f) (b : Shows y f) (t : Trimm
       λ i. record {
         head = same-head i;
         stages = record {
-          count = record { 0 = same-count stage stage-one (t .stages) (u .stages) stages i };
-          lines = same-lines stage stage-one (t .stages) (u .stages) stages i;
+          count = record { 0 = same-count stage Settled stage-one (t .stages) (u .stages) (t .analyses) (u .analyses) stages i };
+          lines = same-lines stage Settled stage-one (t .stages) (u .stages) (t .analyses) (u .analyses) stages i;
         };
         setters = record {
-          count = record { 0 = same-count setter setter-one (t .setters) (u .setters) setters i };
-          lines = same-lines setter setter-one (t .setters) (u .setters) setters i;
+          count = record { 0 = any-count setter setter-one (t .setters) (u .setters) setters i };
+          lines = any-lines setter setter-one (t .setters) (u .setters) setters i;
         };
         parts = record {
-          count = record { 0 = same-count part part-one (t .parts) (u .parts) parts i };
-          lines = same-lines part part-one (t .parts) (u .parts) parts i;
+          count = record { 0 = any-count part part-one (t .parts) (u .parts) parts i };
+          lines = any-lines part part-one (t .parts) (u .parts) parts i;
         };
         sections = record {
-          count = record { 0 = same-count section section-one (t .sections) (u .sections) sections i };
-          lines = same-lines section section-one (t .sections) (u .sections) sections i;
+          count = record { 0 = any-count section section-one (t .sections) (u .sections) sections i };
+          lines = any-lines section section-one (t .sections) (u .sections) sections i;
         };
         readings = (a .readings ∙ sym (b .readings)) i;
       }

@@ -2,9 +2,11 @@
 use Prim.Native.Nat.{ℕ, _-_, _≤_}
 use mathlib.Core.Path.{_≡_}
 use mathlib.Core.List.{List}
-use lib.ListN.{length, drop, replicate}
+use mathlib.Core.Bool.{false}
+use lib.ListN.{length, take, drop, replicate}
 use Rattle.quantity.specs.declared.sheet.Edition.{Edition}
 use Rattle.sheet.specs.declared.Head.{Head}
+use Rattle.sheet.specs.declared.Stage.{Stage as Stageˢ}
 use Rattle.sheet.specs.declared.Sheet.{Sheet as Sheetˢ}
 use Rattle.sheet.specs.Shown.{Shows}
 use Rattle.document.specs.Reader.{Sheet, readLines}
@@ -19,7 +21,7 @@ use Rattle.fuel.specs.declared.Fuelling.{Fuelling}
 use Rattle.head.specs.declared.drying.Drying.{Drying}
 use Rattle.reader.specs.declared.all.Lines.{Lines}
 use Rattle.due.specs.Place.{After}
-use Rattle.sheet.specs.Blank.{blankStage, blankSetter, blankPart, blankSection}
+use Rattle.sheet.specs.Blank.{noAnalysis, blankStage, blankSetter, blankPart, blankSection}
 use Rattle.sheet.specs.Quantities.{gases, stagesMost, settersMost, partsMost, sectionsMost}
 
 abbrev pub headOf : Edition → Heading → Fuelling → Drying → Head
@@ -42,10 +44,15 @@ pub record Blanked {A : Type 0} (blank : A) (most count : ℕ) (lines : List A) 
   pub fits : count ≤ most
   pub rest : drop count lines ≡ replicate (most - count) blank
 
+-- a flue that was not analysed has no shares beside it
+abbrev pub Settled : Stageˢ → Type 0
+Settled x = x .analysis .read ≡ false → x .analysis ≡ noAnalysis
+
 -- nothing stands in the struct but what it shows
 pub record Trimmed (x : Sheetˢ) : Type 0 where
   pub gas : length (x .head .gas) ≡ gases
   pub stages : Blanked blankStage stagesMost (x .stages .count .0) (x .stages .lines)
+  pub analyses : Every Settled (take (x .stages .count .0) (x .stages .lines))
   pub setters : Blanked blankSetter settersMost (x .setters .count .0) (x .setters .lines)
   pub parts : Blanked blankPart partsMost (x .parts .count .0) (x .parts .lines)
   pub sections : Blanked blankSection sectionsMost (x .sections .count .0) (x .sections .lines)

@@ -2,6 +2,7 @@
 ghost use mathlib.Core.Path.{_≡_};
 ghost use Rattle.due.specs.Place.{Ready};
 ghost use Rattle.reader.specs.All.{headOf, LinesRead};
+use crate::ends::analysed;
 use crate::ends::closing_line;
 use crate::ends::edition_line;
 use blocks::loading_lines;
@@ -60,7 +61,7 @@ pub fn all_lines(s: &[u8], start: Place) -> Lines
     let heading = heading_lines(s, first.place);
     let fuelling = fuelling_lines(s, heading.place);
     let drying = drying_lines(s, fuelling.place);
-    let staging = staging_lines(s, drying.place);
+    let staging = staging_lines(s, drying.place, analysed(first.edition));
     let loading = loading_lines(s, staging.place);
     let surfaces = surface_lines(s, loading.place, staging.stages.count.0);
     let closing = closing_line(s, surfaces.place);

@@ -5,6 +5,7 @@ ghost use lib.IntN.{pos};
 ghost use Rattle.document.specs.Schema.{at};
 ghost use Rattle.document.specs.Document01.{sheetLine, endLine};
 ghost use Rattle.document.specs.Reader.{readLine};
+ghost use Rattle.document.specs.Rows.{analysed as isAnalysed};
 ghost use Rattle.due.specs.Place.{Ready, After};
 use due::Place;
 use due::due;
@@ -30,6 +31,13 @@ pub fn edition_line(s: &[u8], p: Place) -> EditionLine
     let place = ranged(p.line, q, t.fault);
     let edition = t.value;
     EditionLine { place, edition }
+}
+
+// Whether the flue is analysed on sheets of an edition.
+pub fn analysed(edition: Edition) -> bool
+    ensures { λ r. ⌜ r ≡ isAnalysed (pos (edition .0)) ⌝ }
+{
+    edition.0 <= 2 && 2 <= edition.0
 }
 
 pub struct ClosingLine {

@@ -1,13 +1,13 @@
--- The refusals are numbered from 1 to 13, so that 0 is free for a sheet that is accepted. Assumes nothing.
+-- The refusals are numbered from 1 to 14, so that 0 is free for a sheet that is accepted. Assumes nothing.
 use Prim.Native.Nat.{_≤_, _<_}
 use lib.Dec.{lit≤, lit<}
 use Rattle.sheet.specs.declared.Refusal.{Refusal}
-use Rattle.sheet.specs.declared.Refusal.the-variants.{TooLong, NoLineFeed, WrongKey, WrongCount, NotANumber, Surplus, Outside, Material, Shares, SectionTwice, NoSuchWall, ReadTwice, Missing, Colder, GasTotal, NoRoom}
+use Rattle.sheet.specs.declared.Refusal.the-variants.{TooLong, NoLineFeed, WrongKey, WrongCount, NotANumber, Surplus, Outside, Material, Shares, SectionTwice, NoSuchWall, ReadTwice, Missing, Colder, GasTotal, NoRoom, Analysis}
 use Rattle.sheet.specs.Refusals.{number}
 
 pub record Numbered (r : Refusal) : Type 0 where
   pub some : 0 < number r
-  pub most : number r ≤ 13
+  pub most : number r ≤ 14
 
 pub numbered : (r : Refusal) → Numbered r
 numbered TooLong = record { some = lit< tt; most = lit≤ tt }
@@ -26,3 +26,4 @@ numbered Missing = record { some = lit< tt; most = lit≤ tt }
 numbered Colder = record { some = lit< tt; most = lit≤ tt }
 numbered GasTotal = record { some = lit< tt; most = lit≤ tt }
 numbered NoRoom = record { some = lit< tt; most = lit≤ tt }
+numbered Analysis = record { some = lit< tt; most = lit≤ tt }

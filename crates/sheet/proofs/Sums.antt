@@ -10,6 +10,7 @@ use lib.ListN.{length, getD, take, length-map}
 use lib.Seq.{take-all, take-length}
 use Rattle.arith.proofs.Ring.{v, #, _⊕_, ring}
 use Rattle.sheet.specs.declared.Stage.{Stage as Stageˢ}
+use Rattle.sheet.specs.Blank.{noAnalysis}
 use Rattle.sheet.specs.Block.{sum}
 
 module _ {A B : Type 0} (f : B → ℤ) (g : A → B) where
@@ -44,5 +45,6 @@ stageBeyond = record {
   excess = record { 0 = pos 0 };
   flue = record { 0 = pos 0 };
   co = record { 0 = pos 0 };
+  analysis = noAnalysis;
   minutes = record { 0 = pos 0 };
 }

@@ -1,7 +1,9 @@
 -- What stands in a struct where nothing was read: 0 in every field, or the least of its quantity where that is above 0.
+use mathlib.Core.Bool.{false}
 use lib.IntN.{pos, natAbs}
 use lib.ListN.{replicate}
 use Rattle.sheet.specs.declared.Stuff.{Stuff}
+use Rattle.sheet.specs.declared.Analysis.{Analysis}
 use Rattle.sheet.specs.declared.Stage.{Stage}
 use Rattle.sheet.specs.declared.Setter.{Setter}
 use Rattle.sheet.specs.declared.Part.{Part}
@@ -14,12 +16,16 @@ use Rattle.sheet.specs.Quantities.{gases, stagesMost, settersMost, parts
 abbrev pub blankStuff : Stuff
 blankStuff = record { material = record { 0 = 0 }; c = record { 0 = pos 0 } }
 
+abbrev pub noAnalysis : Analysis
+noAnalysis = record { read = false; pair = record { 0 = pos 0 }; oxygen = record { 0 = pos 0 } }
+
 abbrev pub blankStage : Stage
 blankStage = record {
   gas = record { 0 = pos 0 };
   excess = record { 0 = excess .least };
   flue = record { 0 = pos 0 };
   co = record { 0 = pos 0 };
+  analysis = noAnalysis;
   minutes = record { 0 = minutes .least };
 }
 

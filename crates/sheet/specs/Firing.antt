@@ -1,5 +1,6 @@
 -- A firing as its sheet records it, by name, in document 01's units: temperatures 0.1 °C, masses 0.1 kg, gas 0.1 m³. Nothing is computed here.
 use mathlib.Core.List.{List}
+use mathlib.Core.Option.{Option}
 use lib.IntN.{ℤ}
 
 -- material 0..18; c in 0.0001 kJ/(kg·°C), which counts for material 0 only
@@ -39,12 +40,18 @@ pub record Water : Type 0 where
   pub crystal : ℤ
   pub flue : ℤ
 
--- excess air in thousandths, CO in dry flue in 0.01 %
+-- what an analyser says of dry flue besides CO: CO2 with SO2, and O2, in 0.01 %
+pub record Analysis : Type 0 where
+  pub pair : ℤ
+  pub oxygen : ℤ
+
+-- excess air in thousandths, CO in dry flue in 0.01 %; the analysis where the sheet has one
 pub record Stage : Type 0 where
   pub gas : ℤ
   pub excess : ℤ
   pub flue : ℤ
   pub co : ℤ
+  pub analysis : Option Analysis
   pub minutes : ℤ
 
 pub record Setter : Type 0 where

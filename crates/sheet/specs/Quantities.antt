@@ -49,7 +49,7 @@ abbrev pub minus : ℕ → ℕ → Field
 minus a b = record { least = negℤ (pos a); greatest = pos b }
 
 abbrev pub edition : Field
-edition = to 1 1
+edition = to 1 2
 
 abbrev pub closing : Field
 closing = to 1 1
@@ -98,6 +98,19 @@ excess = to 1000 5000
 
 abbrev pub monoxide : Field
 monoxide = to 0 1000
+
+-- of sheet 2: CO2 with SO2, O2, the flue's temperature up to the last row of table A.1, and CO, the pair and O2 together
+abbrev pub pair : Field
+pair = to 0 2500
+
+abbrev pub oxygen : Field
+oxygen = to 0 2100
+
+abbrev pub analysedFlue : Field
+analysedFlue = to 0 10000
+
+abbrev pub analysisMost : ℕ
+analysisMost = 4000
 
 abbrev pub minutes : Field
 minutes = to 1 2880

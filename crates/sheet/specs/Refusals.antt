@@ -1,7 +1,7 @@
 -- What the clerk hears: the number of each refusal, by document 01 and T-01 of document 02, and the field it names.
 use Prim.Native.Nat.{ℕ}
 use Rattle.sheet.specs.declared.Refusal.{Refusal}
-use Rattle.sheet.specs.declared.Refusal.the-variants.{TooLong, NoLineFeed, WrongKey, WrongCount, NotANumber, Surplus, Outside, Material, Shares, SectionTwice, NoSuchWall, ReadTwice, Missing, Colder, GasTotal, NoRoom}
+use Rattle.sheet.specs.declared.Refusal.the-variants.{TooLong, NoLineFeed, WrongKey, WrongCount, NotANumber, Surplus, Outside, Material, Shares, SectionTwice, NoSuchWall, ReadTwice, Missing, Colder, GasTotal, NoRoom, Analysis}
 
 abbrev pub number : Refusal → ℕ
 number TooLong = 1
@@ -20,6 +20,7 @@ number Missing = 8
 number Colder = 9
 number GasTotal = 10
 number NoRoom = 11
+number Analysis = 14
 
 -- counted from 1; 0 where the whole line, or the whole sheet, is meant
 abbrev pub field : Refusal → ℕ
@@ -39,3 +40,4 @@ field Missing = 0
 field Colder = 0
 field GasTotal = 0
 field NoRoom = 0
+field Analysis = 0

@@ -5,6 +5,7 @@ use mathlib.Core.Bool.{Bool, true, false, cond, _&&_}
 use mathlib.Core.List.{List, [], _∷_, map}
 use lib.ListN.{getD, take, set, replicate}
 use lib.Dec.{eqb}
+use mathlib.Core.Option.{Option, none, some}
 use lib.IntN.{ℤ, pos, natAbs}
 use lib.Signed.{leZ}
 use Rattle.quantity.specs.declared.gas.Share.{Share}
@@ -12,6 +13,7 @@ use Rattle.sheet.specs.declared.Stuff.{Stuff as Stuffˢ}
 use Rattle.sheet.specs.declared.Fuel.{Fuel as Fuelˢ}
 use Rattle.sheet.specs.declared.Ware.{Ware as Wareˢ}
 use Rattle.sheet.specs.declared.Water.{Water as Waterˢ}
+use Rattle.sheet.specs.declared.Analysis.{Analysis as Analysisˢ}
 use Rattle.sheet.specs.declared.Stage.{Stage as Stageˢ}
 use Rattle.sheet.specs.declared.Setter.{Setter as Setterˢ}
 use Rattle.sheet.specs.declared.Part.{Part as Partˢ}
@@ -20,7 +22,7 @@ use Rattle.sheet.specs.declared.Reading.{Reading as Readingˢ}
 use Rattle.sheet.specs.declared.SectionReadings.{SectionReadings as SectionReadingsˢ}
 use Rattle.sheet.specs.declared.Head.{Head as Headˢ}
 use Rattle.sheet.specs.declared.Sheet.{Sheet as Sheetˢ}
-use Rattle.sheet.specs.Firing.{Stuff, Fuel, Gas, Ware, Water, Stage, Setter, Part, Section, Wall, Firing}
+use Rattle.sheet.specs.Firing.{Stuff, Fuel, Gas, Ware, Water, Analysis, Stage, Setter, Part, Section, Wall, Firing}
 use Rattle.sheet.specs.Quantities.{stagesMost, sectionsMost}
 
 -- ---- a struct's record
@@ -57,8 +59,11 @@ ware x = record { green = x .green .0; entry = x .entry .0; highest = x .highest
 abbrev pub water : Waterˢ → Water
 water x = record { adsorbed = x .adsorbed .0; crystal = x .crystal .0; flue = x .flue .0 }
 
+abbrev pub analysis : Analysisˢ → Option Analysis
+analysis x = cond (x .read) (some (record { pair = x .pair .0; oxygen = x .oxygen .0 })) none
+
 abbrev pub stage : Stageˢ → Stage
-stage x = record { gas = x .gas .0; excess = x .excess .0; flue = x .flue .0; co = x .co .0; minutes = x .minutes .0 }
+stage x = record { gas = x .gas .0; excess = x .excess .0; flue = x .flue .0; co = x .co .0; analysis = analysis (x .analysis); minutes = x .minutes .0 }
 
 abbrev pub setter : Setterˢ → Setter
 setter x = record { mass = x .mass .0; entry = x .entry .0; stuff = stuff (x .stuff) }

@@ -2,7 +2,8 @@
 // never outside its limits.
 ghost use mathlib.Core.Path.{_≡_};
 ghost use Rattle.sheet.specs.Shown.{unread, unreadSection};
-ghost use Rattle.sheet.specs.Blank.{blankStage, blankSetter, blankPart, blankSection, blankHead, blankSheet};
+ghost use Rattle.sheet.specs.Blank.{noAnalysis, blankStage, blankSetter, blankPart, blankSection, blankHead, blankSheet};
+use crate::Analysis;
 use crate::Fuel;
 use crate::GASES;
 use crate::Head;
@@ -22,8 +23,10 @@ use crate::Ware;
 use crate::Water;
 use quantity::gas::CarbonMonoxide;
 use quantity::gas::CubicMetres;
+use quantity::gas::Dioxides;
 use quantity::gas::ExcessAir;
 use quantity::gas::Moisture;
+use quantity::gas::Oxygen;
 use quantity::gas::Share;
 use quantity::heat::HeatingValue;
 use quantity::heat::SpecificHeat;
@@ -47,6 +50,17 @@ use quantity::temperature::FuelTemperature;
 use quantity::temperature::NearAir;
 use quantity::temperature::SurfaceTemperature;
 
+// A flue that was not analysed.
+pub fn analysis() -> Analysis
+    ensures { λ r. ⌜ r ≡ noAnalysis ⌝ }
+{
+    Analysis {
+        read: false,
+        pair: Dioxides(0),
+        oxygen: Oxygen(0),
+    }
+}
+
 // A stage that was not read.
 pub fn stage() -> Stage
     ensures { λ r. ⌜ r ≡ blankStage ⌝ }
@@ -56,7 +70,8 @@ pub fn stage() -> Stage
         excess: ExcessAir(ExcessAir::LEAST),
         flue: FlueTemperature(0),
         co: CarbonMonoxide(0),
-        minutes: Minutes(Minutes::LEAST),
+        analysis: analysis(),
+        minutes: Minutes(Minutes::LEAST as i16),
     }
 }
 

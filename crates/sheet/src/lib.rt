@@ -6,8 +6,10 @@ ghost use mathlib.Core.Path.{_≡_};
 ghost use Rattle.sheet.specs.Refusals.{number, field};
 use quantity::gas::CarbonMonoxide;
 use quantity::gas::CubicMetres;
+use quantity::gas::Dioxides;
 use quantity::gas::ExcessAir;
 use quantity::gas::Moisture;
+use quantity::gas::Oxygen;
 use quantity::gas::Share;
 use quantity::heat::HeatingValue;
 use quantity::heat::SpecificHeat;
@@ -58,6 +60,7 @@ pub enum Refusal {
     Colder,
     GasTotal,
     NoRoom,
+    Analysis,
 }
 
 // What a thing is made of; c counts for material 0 only.
@@ -84,11 +87,19 @@ pub struct Water {
     pub flue: FlueTemperature,
 }
 
+// What an analyser says of the dry flue besides CO. On a sheet without it `read` is false, and the shares are 0.
+pub struct Analysis {
+    pub read: bool,
+    pub pair: Dioxides,
+    pub oxygen: Oxygen,
+}
+
 pub struct Stage {
     pub gas: CubicMetres,
     pub excess: ExcessAir,
     pub flue: FlueTemperature,
     pub co: CarbonMonoxide,
+    pub analysis: Analysis,
     pub minutes: Minutes,
 }
 
@@ -190,6 +201,7 @@ pub fn refusal_number(refusal: Refusal) -> usize
         Refusal::Colder => 9,
         Refusal::GasTotal => 10,
         Refusal::NoRoom => 11,
+        Refusal::Analysis => 14,
     }
 }
 
@@ -214,5 +226,6 @@ pub fn refusal_field(refusal: Refusal) -> usize
         Refusal::Colder => 0,
         Refusal::GasTotal => 0,
         Refusal::NoRoom => 0,
+        Refusal::Analysis => 0,
     }
 }

@@ -5,7 +5,7 @@ use mathlib.Core.Bool.{Bool, true, false, _&&_}
 use mathlib.Core.List.{List, [], _∷_, _++_, map, map-append}
 use mathlib.Core.Option.{Option}
 use native.Mathlib.Numerals.{add-one}
-use lib.ListN.{length}
+use lib.ListN.{length, length-map}
 use lib.Signed.{ltZ}
 use Rattle.sheet.specs.declared.SectionReadings.{SectionReadings}
 use Rattle.sheet.specs.declared.Refusal.{Refusal}
@@ -17,8 +17,8 @@ use Rattle.text.specs.Bytes.{bytes}
 use Rattle.document.specs.Schema.{Row}
 use Rattle.document.specs.Tests.{when, _else_, isRead, wall-rule}
 use Rattle.document.specs.Document01.{wallLine}
-use Rattle.document.specs.Reader.{Sheet, Reader, filled, readLine, readRows}
-use Rattle.document.specs.Rows.{stageOf, sectionOf, wallOf, stagesIn, sectionsIn, wallsIn}
+use Rattle.document.specs.Reader.{Sheet, Reader, filled, rowsOf, readLine, readRows}
+use Rattle.document.specs.Rows.{editionIn, stageAs, sectionOf, wallOf, stagesIn, sectionsIn, wallsIn}
 use Rattle.due.specs.declared.Place.{Place}
 use Rattle.due.specs.Place.{good, Fair, After, ruled}
 use Rattle.due.specs.Block.{lacks}
@@ -67,7 +67,11 @@ module _ (s : List ℕ) (S : List Section) (k : ℕ) (few : length S ≤ section
   rule-is rows row =
       let here = seen ++ filled wallLine rows in
       let S-is : sectionsIn here ≡ S = ap (map sectionOf) (rows-other (bytes "section") wallLine rows seen refl) ∙ above in
-      let k-is : length (stagesIn here) ≡ k = ap (λ (x : List Row). length (map stageOf x)) (rows-other (bytes "stage") wallLine rows seen refl) ∙ so-many in
+      let k-is : length (stagesIn here) ≡ k =
+      length-map (rowsOf (bytes "stage") here) (stageAs (editionIn here))
+      ∙ ap (λ (x : List Row). length x) (rows-other (bytes "stage") wallLine rows seen refl)
+      ∙ sym (length-map (rowsOf (bytes "stage") seen) (stageAs (editionIn seen)))
+      ∙ so-many in
       let walls-are : wallsIn here ≡ map wallOf rows = ap (map wallOf) (rows-here wallLine rows seen none-yet) in
       sym (fault-is (stagesIn here) (sectionsIn here) (wallsIn here) (wallOf row) ∙ agree (wallOf row) S-is k-is walls-are)
 

@@ -8,6 +8,7 @@ use Rattle.arith.proofs.Ring.{v, _⊗_, ring}
 use Rattle.arith.proofs.Machine.{raw, _⟨-⟩_, _⟨*⟩_}
 use Rattle.formulas.specs.Formulas.{joule, dryHeat}
 use Rattle.formulas.proofs.Units.{same, times, finer}
+use Rattle.formulas.proofs.Capacity.{flue-in}
 use Rattle.formulas.proofs.Sizes.{limits, within, fit, rounded}
 use Rattle.flue.proofs.dry_heat.Statement.{statement}
 use Rattle.flue.proofs.dry_heat.Tie as tie
@@ -18,7 +19,7 @@ degrees-requires c κs = search needs
 above-requires : tie.Need-above-requires
 above-requires c κs =
     let p = c .before .pre in
-    rw (c .degrees .ensures) (fit (limits (p .filled .stage .flue) ∷ limits (p .ambient) ∷ []) (raw 0 ⟨-⟩ raw 1) tt)
+    rw (c .degrees .ensures) (fit (limits (flue-in _ (p .filled .stage)) ∷ limits (p .ambient) ∷ []) (raw 0 ⟨-⟩ raw 1) tt)
 
 -- the code's product, with the one whose size is known
 regrouped : (n c x : ℤ) → n *ℤ c *ℤ x ≡ n *ℤ (c *ℤ x)

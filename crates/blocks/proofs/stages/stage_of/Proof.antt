@@ -1,22 +1,24 @@
 -- Five constructors in a row. Assumes nothing.
 use borrow.Author.Needs.{needs}
-use Rattle.document.specs.Rows.{stageOf}
+use mathlib.Core.Bool.{false}
+use Rattle.blocks.specs.Stages.{heldBy}
 use Rattle.due.proofs.Chain.{_&_, done, taken-as}
 use Rattle.blocks.proofs.stages.stage_of.Statement.{statement}
 use Rattle.blocks.proofs.stages.stage_of.Tie as tie
 
 returns : tie.Need-returns
 returns c =
-    let fields = c .before .before in
+    let fields = c .before .before .before in
     let r4 = fields .before .before .before in
     let r3 = r4 .before in
     let r2 = r3 .before in
     let r1 = r2 .before in
     let r0 = r1 .before in
-    taken-as stageOf (r0 .checked .ensures & r1 .checked2 .ensures & r2 .checked3 .ensures & r3 .checked4 .ensures & r4 .checked5 .ensures & done)
+    rw (c .analysis .ensures)
+    (taken-as (heldBy false) (r0 .checked .ensures & r1 .checked2 .ensures & r2 .checked3 .ensures & r3 .checked4 .ensures & r4 .checked5 .ensures & done))
 
 pub stage-of-spec : {M : Type 1} → statement M
 stage-of-spec =
     tie.close
     (tie.spec (λ c. search needs) (λ c. search needs) (λ c. search needs) (λ c. search needs) (λ c. search needs) (λ c κs. search needs)
-    (λ c κs. search needs) (λ c κs. search needs) (λ c κs. search needs) (λ c κs. search needs) returns)
+    (λ c κs. search needs) (λ c κs. search needs) (λ c κs. search needs) (λ c κs. search needs) (λ c κs. search needs) returns)

@@ -3,10 +3,8 @@ use Prim.Native.Nat.{_-_}
 use mathlib.Core.Path.{_≡_}
 use native.Mathlib.Omega.{arith}
 use borrow.Author.Needs.{needs}
-use Rattle.sheet.specs.Shown.{stage}
-use Rattle.document.specs.Tests.{free}
-use Rattle.document.specs.Document01.{stageLine}
-use Rattle.document.specs.Rows.{stageOf}
+use Rattle.document.specs.Sheet2.{stageLineBy, stageRuleBy}
+use Rattle.blocks.specs.Stages.{heldBy, itself}
 use Rattle.sheet.specs.Blank.{blankStage}
 use Rattle.sheet.specs.Quantities.{stagesMost}
 use Rattle.due.proofs.Fills.{Filling, filling-none, filling-next}
@@ -14,15 +12,16 @@ use Rattle.blocks.proofs.stages.stage_rows.Statement.{statement}
 use Rattle.blocks.proofs.stages.stage_rows.Tie as tie
 
 abbrev Inv-loop : tie.InvT-loop
-Inv-loop s k lines₀ p₀ i₀ lines p i = Filling stage stageOf blankStage stagesMost s stageLine free k p₀ p i lines
+Inv-loop s k flue lines₀ p₀ i₀ lines p i = Filling itself (heldBy flue) blankStage stagesMost s (stageLineBy flue) (stageRuleBy flue) k p₀ p i lines
 
 abbrev μ-loop : tie.MeasureT-loop
-μ-loop s k lines₀ p₀ i₀ lines p i = k - i
+μ-loop s k flue lines₀ p₀ i₀ lines p i = k - i
 
 loop-holds : tie.Need-loop-holds Inv-loop μ-loop
 loop-holds c =
     let start = c .before .before in
-    rw (c .stage .ensures) (filling-none stage stageOf blankStage stagesMost _ stageLine free _ _ (start .pre .0) (start .pre .1))
+    let flue = start .args .analysed in
+    rw (c .stage .ensures) (filling-none itself (heldBy flue) blankStage stagesMost _ (stageLineBy flue) (stageRuleBy flue) _ _ (start .pre .0) (start .pre .1))
 
 stage-line-requires : tie.Need-stage-line-requires Inv-loop μ-loop
 stage-line-requires c κs = c .before .loop .inv .3
@@ -31,8 +30,9 @@ loop-again : tie.Need-loop-again Inv-loop μ-loop
 loop-again c =
     let line = c .before .before in
     let turn = line .before .before in
-    filling-next stage stageOf blankStage stagesMost _ stageLine free _ _ _ _ _ (turn .loop .lines) _ (turn .loop .inv) (omega arith)
-    (λ above. line .stage-line .ensures)
+    let flue = turn .before .before .before .args .analysed in
+    filling-next itself (heldBy flue) blankStage stagesMost _ (stageLineBy flue) (stageRuleBy flue) _ _ _ _ _ (turn .loop .lines) _
+    (turn .loop .inv) (omega arith) (line .stage-line .ensures)
 
 returns : tie.Need-returns Inv-loop μ-loop
 returns c =

@@ -12,7 +12,8 @@ use Rattle.reader.proofs.all.all_lines.Tie as tie
 -- the start, from behind the loads
 abbrev start : tie.After-loading-lines → tie.Start
 start c =
-    let heading = c .before .before .before .before in
+    let drying = c .before .before .before in
+    let heading = drying .before .before in
     heading .before .before .before
 
 surface-lines-requires : tie.Need-surface-lines-requires
@@ -38,7 +39,7 @@ returns c =
     let surfaces = closing .before in
     let loading = surfaces .before in
     let staging = loading .before in
-    let drying = staging .before in
+    let drying = staging .before .before in
     let fuelling = drying .before in
     let heading = fuelling .before in
     let first = heading .before in
@@ -50,7 +51,8 @@ returns c =
           (staging .staging-lines .result) (loading .loading-lines .result) (surfaces .surface-lines .result) (closing .closing-line .result) _
           (gas-long fuelling)
           (first .edition-line .ensures) (heading .heading-lines .ensures) (fuelling .fuelling-lines .ensures) (drying .drying-lines .ensures)
-          (staging .staging-lines .ensures) (loading .loading-lines .ensures) (surfaces .surface-lines .ensures) (closing .closing-line .ensures);
+          (rw (← staging .before .analysed .ensures) (staging .staging-lines .ensures)) (loading .loading-lines .ensures)
+          (surfaces .surface-lines .ensures) (closing .closing-line .ensures);
       sized = record {
         stages = staging .staging-lines .ensures .within;
         sections = surfaces .surface-lines .ensures .within;
@@ -61,6 +63,7 @@ pub all-lines-spec : {M : Type 1} → statement M
 all-lines-spec =
     tie.close
     (tie.spec
+    (λ c κs. search needs)
     (λ c κs. search needs)
     (λ c κs. search needs)
     (λ c κs. search needs)
