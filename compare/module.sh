@@ -26,7 +26,7 @@ for word; do case \$word in *.bc) cp "\$word" '$PWD/$built/module.bc' ;; esac; d
 exec '$(realpath -s "$kit")/$deep/clang' "\$@"
 END
     chmod +x "$copy/$deep/clang"
-    RATTLE_HOME=$copy quietly staticlib.log rt staticlib kiln
+    RATTLE_HOME=$copy quietly staticlib.log rt staticlib hallviska
     [ -f "$built/module.bc" ] || { echo "$0: the toolchain has compiled no module" >&2; exit 2; }
 }
 

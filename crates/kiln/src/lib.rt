@@ -1,4 +1,4 @@
-// The balance of a sheet: its report in a lent slice, or a refusal with its line and its field; for other crates, for C, and as text for a program.
+// The balance of a sheet: its report in a lent slice, or a refusal with its line and its field; for other crates, and as text for a program.
 mod program;
 
 pub use program::print;
@@ -36,13 +36,4 @@ pub fn balance(sheet: &[u8], room: &mut [u8]) -> Answer
     ensures { λ _. ⌜ now (room .exit) ≡ bufferOf (now (sheet .entry)) (now (room .entry)) ⌝ }
 {
     answered(sheet, room)
-}
-
-// The same for C.
-#[no_mangle]
-pub extern "C" fn hallviska_balance(sheet: &[u8], room: &mut [u8]) -> Answer
-    ensures { λ r. ⌜ r ≡ answerOf (now (sheet .entry)) (length (now (room .entry))) ⌝ }
-    ensures { λ _. ⌜ now (room .exit) ≡ bufferOf (now (sheet .entry)) (now (room .entry)) ⌝ }
-{
-    balance(sheet, room)
 }
