@@ -1,8 +1,8 @@
 /* The balance of one firing of a gas-fired shuttle kiln, for callers in C and C++.
  *
- * One function: from the bytes of a sheet to the bytes of its report, or to a refusal. The rules of the sheet, the report's lines and
- * the refusals are those of document 01, as document 02 has changed them since; docs/RULES.md has them whole. The library is made for
- * x86-64 Linux, by `rt staticlib kiln`.
+ * From the bytes of a sheet to the bytes of its report, or to a refusal. The rules of the sheet, the report's lines and the refusals are
+ * those of document 01, as document 02 has changed them since; docs/RULES.md has them whole. The library is made for x86-64 Linux, by
+ * `rt staticlib hallviska`; `tools/install` puts it, and this header, where compilers look. hallviska_words.h has words for all numbers here.
  */
 #ifndef HALLVISKA_H
 #define HALLVISKA_H
@@ -14,11 +14,48 @@
 extern "C" {
 #endif
 
+/* Which header this is. The number grows by one with each change of a struct's layout, of what a function here means for some input, or of
+ * the numbers of refusals; it stays where only words or the inside of the library change. A caller compares it with what the library says,
+ * before any other call: where the two differ, the one was made for another layout than the other, and a field could be read wrongly. The
+ * shared library bears it in its name (libhallviska.so.1), so that the loader compares it too. */
+#define HALLVISKA_VERSION 1
+
+/* The HALLVISKA_VERSION of the header that the library answers by. */
+uint32_t hallviska_version(void);
+
 /* The longest sheet, in bytes. Whoever reads a sheet from a file asks for one byte more, so that a longer one is seen to be longer. */
 #define HALLVISKA_SHEET_MOST 16384
 
 /* Room in which every report fits: 20 lines, each of a key of at most 7 characters, '=', at most 20 characters and LF, are 580 bytes. */
 #define HALLVISKA_REPORT_MOST 1024
+
+/* The report: these lines, all of them and always in this order, each KEY=NUMBER and LF. A number is 0, or digits without a leading zero,
+ * with '-' before them where it is below 0. A heat is in whole kJ per tonne of fired ware. */
+enum hallviska_line {
+    HALLVISKA_FIRING = 0,        /* firing   the sheet's number of the firing */
+    HALLVISKA_Q1 = 1,            /* q1       income, kJ/t: the gas, burnt */
+    HALLVISKA_Q2 = 2,            /* q2       the gas, warm as it came */
+    HALLVISKA_Q3 = 3,            /* q3       the setters, as they went in */
+    HALLVISKA_Q5 = 4,            /* q5       the green ware, as it went in */
+    HALLVISKA_Q8 = 5,            /* q8       the kiln, before it was lit */
+    HALLVISKA_IN = 6,            /* in       all of it, summed before it is rounded */
+    HALLVISKA_X1 = 7,            /* x1       expenditure, kJ/t: into the ware */
+    HALLVISKA_X2 = 8,            /* x2       into the water of the ware */
+    HALLVISKA_X3 = 9,            /* x3       into the clay as it turned */
+    HALLVISKA_X5 = 10,           /* x5       into the setters */
+    HALLVISKA_X7 = 11,           /* x7       up the chimney as hot flue gas */
+    HALLVISKA_X8 = 12,           /* x8       up the chimney as CO, unburnt */
+    HALLVISKA_X9 = 13,           /* x9       through roof, walls and floor */
+    HALLVISKA_X10 = 14,          /* x10      into the kiln itself */
+    HALLVISKA_X11 = 15,          /* x11      not accounted for, or misread: the income less all above */
+    HALLVISKA_USEFUL = 16,       /* useful   heat that the ware needed, kJ/t */
+    HALLVISKA_WITHSET = 17,      /* withset  the same with its setters, kJ/t */
+    HALLVISKA_EFF1 = 18,         /* eff1     useful as a share of q1, in 0.01 % */
+    HALLVISKA_EFF2 = 19          /* eff2     withset as a share of q1, in 0.01 % */
+};
+
+/* How many lines a report has. */
+#define HALLVISKA_LINES 20
 
 /* The refusals of docs/RULES.md, section 3, which also says in which order they are looked for. Where line and field are not 0, they are
  * the sheet's line and that line's field, each counted from 1. */
@@ -51,7 +88,7 @@ struct hallviska_answer {
  *
  * The caller sees to it that
  *   - neither pointer is null, even where its length is 0: the library takes both as references, and a reference is never null.
- *     Any other pointer will do for no bytes;
+ *     Any other pointer will do for no bytes. hallviska_balance_nullable, below, is for a caller that cannot promise it;
  *   - `sheet_length` bytes can be read at `sheet`, and `report_length` bytes read and written at `report`;
  *   - the two don't overlap, and nobody else writes to either, or reads the report, before the call returns.
  * Nothing is asked of what the bytes are: every sheet of every length has an answer. Neither needs to end in a 0 byte, and none is added.
@@ -67,6 +104,17 @@ struct hallviska_answer {
  * where it was measured, so a thread that calls it should have 64 KiB or more.
  */
 struct hallviska_answer hallviska_balance(const uint8_t *sheet, size_t sheet_length, uint8_t *report, size_t report_length);
+
+/* The same for a caller whose pointer may be null where its length is 0, as `data()` of an empty vector of C++ may: such a pointer is never
+ * handed on. An empty sheet is then refused 13 at line 1, as any other is, and without room for a report an accepted sheet is refused 11.
+ * A null pointer with a length above 0 stays the caller's fault. */
+static inline struct hallviska_answer hallviska_balance_nullable(const uint8_t *sheet, size_t sheet_length, uint8_t *report,
+                                                                 size_t report_length)
+{
+    const uint8_t no_sheet = 0;
+    uint8_t no_report = 0;
+    return hallviska_balance(sheet_length == 0 ? &no_sheet : sheet, sheet_length, report_length == 0 ? &no_report : report, report_length);
+}
 
 #ifdef __cplusplus
 }

@@ -1,4 +1,4 @@
-/* Holds the exported function to its header: boundary SHEET..., each NAME.sheet with its answer beside it in NAME.report.
+/* Holds the exported functions to their header: boundary SHEET..., each NAME.sheet with its answer beside it in NAME.report.
  *
  * Every sheet is handed over whole; an accepted one also torn at every byte, with every byte spoilt, and lengthened past the limit. Each
  * of these is tried in rooms around the length that its report needs. A page that may not be touched lies before and behind what is lent,
@@ -213,6 +213,9 @@ int main(int argc, char **argv)
     signal(SIGBUS, touched);
     sheet_lent = between_guards(SHEET_LENT);
     report_lent = between_guards(REPORT_LENT);
+    snprintf(where, sizeof where, "the version");
+    if (hallviska_version() != HALLVISKA_VERSION)
+        fail("the library says %u, and the header %d", (unsigned)hallviska_version(), HALLVISKA_VERSION);
     for (int i = 1; i < argc; i++)
         try_file(argv[i]);
     snprintf(where, sizeof where, "%d sheets", argc - 1);

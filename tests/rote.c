@@ -1,11 +1,18 @@
 /* Stands in for the library where a test wants an answer of its own choosing: whatever the sheet, it gives the one in the file that the
- * environment names as ROTE, a report or `refused=NUMBER,LINE,FIELD`. The screen can so be shown refusals that it never provokes and reports
- * that no library writes, on any processor and under its memory checker.
+ * environment names as ROTE, a report or `refused=NUMBER,LINE,FIELD`. The command can so be shown refusals that it never provokes and reports
+ * that no library writes, on any processor and under its memory checker. It says that it is of the version that stands in ROTE_VERSION, or
+ * of the header's.
  */
 #include <stdio.h>
 #include <stdlib.h>
 
 #include "hallviska.h"
+
+uint32_t hallviska_version(void)
+{
+    const char *version = getenv("ROTE_VERSION");
+    return version ? (uint32_t)strtoul(version, NULL, 10) : HALLVISKA_VERSION;
+}
 
 struct hallviska_answer hallviska_balance(const uint8_t *sheet, size_t sheet_length, uint8_t *report, size_t report_length)
 {
