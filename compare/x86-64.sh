@@ -1,17 +1,4 @@
-# For scripts of bash to read: what makes and runs a program for x86-64, for which alone the library is made.
-# It sets `compiler` and `runner`, and asks for cargo too, as all who read it do.
+# For scripts of bash to read: what makes and runs a program for x86-64 (tools/x86-64.sh), and cargo, which all who read this need too.
 
-tools/needs rust x86-64
-
-if [ "$(uname -m)" = x86_64 ]; then
-    compiler=gcc
-    runner=()
-else
-    tools/needs rt
-    compiler=x86_64-linux-gnu-gcc
-    root=/usr/x86_64-linux-gnu
-    kit=${RATTLE_HOME:-$(dirname "$(dirname "$(readlink -f "$(command -v rt)")")")}
-    # The toolchain brings an emulator. Unless it is told to be a plain processor, the C library copies with instructions that it has to
-    # take byte by byte, and all is ten times as slow.
-    runner=("$kit/on/$(uname -m)/toolchain/bin/qemu-x86_64" -cpu qemu64 -L "$root")
-fi
+tools/needs rust
+. tools/x86-64.sh
