@@ -1,5 +1,6 @@
 # For scripts of bash to read, at the top of the repository: what makes and runs a program for x86-64, for which alone the library is made.
-# It sets `compiler` and `runner`; the tools that go with the compiler are named like it, as ${compiler%gcc}g++.
+# It sets `compiler` and `runner`; the tools that go with the compiler are named like it, as ${compiler%gcc}g++. `declared_functions HEADER`
+# names the functions that the library has to have.
 
 tools/needs x86-64
 if [ "$(uname -m)" = x86_64 ]; then
@@ -14,3 +15,6 @@ else
     # take byte by byte, and all is ten times as slow.
     runner=("$kit/on/$(uname -m)/toolchain/bin/qemu-x86_64" -cpu qemu64 -L "$root")
 fi
+
+# The inline ones call those that are declared, so that a name may stand there twice.
+declared_functions() { gcc -E -P "$1" | tr '\n' ' ' | grep -oE 'hallviska_[a-z_]+\([^()]*\);' | sed 's/(.*//' | sort -u; }
