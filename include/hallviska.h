@@ -17,7 +17,7 @@ extern "C" {
 /* Which header this is. The number grows by one with each change of a struct's layout, of what a function here means for some input, or of
  * the numbers of refusals; it stays where only words or the inside of the library change. A caller compares it with what the library says,
  * before any other call: where the two differ, the one was made for another layout than the other, and a field could be read wrongly. The
- * shared library bears it in its name (libhallviska.so.1), so that the loader compares it too. */
+ * shared library bears it at the end of its name, so that the loader compares it too. */
 #define HALLVISKA_VERSION 1
 
 /* The HALLVISKA_VERSION of the header that the library answers by. */

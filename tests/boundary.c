@@ -17,6 +17,12 @@
 
 #include "hallviska.h"
 
+/* What callers of this version were compiled with. Whoever changes a struct gives the header its next number, and this the new layout. */
+_Static_assert(HALLVISKA_VERSION == 1 && sizeof(struct hallviska_answer) == 24 && offsetof(struct hallviska_answer, refusal) == 0
+                   && offsetof(struct hallviska_answer, line) == 4 && offsetof(struct hallviska_answer, field) == 8
+                   && offsetof(struct hallviska_answer, length) == 16 && HALLVISKA_ANALYSIS == 14,
+               "the layout or the refusals are another: HALLVISKA_VERSION has to grow");
+
 enum { SHEET_LENT = 5 * 4096, REPORT_LENT = 4096, ROOM_MOST = HALLVISKA_REPORT_MOST };
 
 /* What a sheet is due: the answer in a room that is large enough, and the report. */
