@@ -12,14 +12,14 @@
 #include <string.h>
 #include <time.h>
 
-#include "hallviska.h"
+#include "native.h"
 
 typedef struct hallviska_answer balance(const uint8_t *sheet, size_t sheet_length, uint8_t *report, size_t report_length);
 
 /* The independent program under the same promises (compare/second/src/export.rs). */
 balance second_balance;
 
-static balance *const both[2] = {hallviska_balance, second_balance};
+static balance *const both[2] = {native_balance, second_balance};
 
 /* A round takes this long or longer for each of the two, and the fastest of so many rounds counts: what disturbs a round only slows it, and
  * among many short rounds some are not disturbed. */
@@ -99,7 +99,7 @@ static struct hallviska_answer agreed(const struct sheet *sheet, const char *pat
     uint8_t first[sizeof report];
     memset(first, 0, sizeof first);
     memset(report, 0, sizeof report);
-    struct hallviska_answer answer = hallviska_balance(sheet->text, sheet->length, first, sizeof first);
+    struct hallviska_answer answer = native_balance(sheet->text, sheet->length, first, sizeof first);
     struct hallviska_answer other = second_balance(sheet->text, sheet->length, report, sizeof report);
     if (answer.refusal != other.refusal || answer.line != other.line || answer.field != other.field || answer.length != other.length
         || memcmp(first, report, sizeof first) != 0) {

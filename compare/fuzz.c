@@ -12,7 +12,7 @@
 #include <unistd.h>
 
 #include "fuzz.h"
-#include "hallviska.h"
+#include "native.h"
 
 struct hallviska_answer second_balance(const uint8_t *sheet, size_t sheet_length, uint8_t *report, size_t report_length);
 
@@ -113,7 +113,7 @@ static struct hallviska_answer put(const uint8_t *text, size_t length, uint8_t *
     memcpy(library_lent, before, lent);
     memcpy(second_lent, before, lent);
 
-    struct hallviska_answer ours = hallviska_balance(sheet, length, library_lent + start, room);
+    struct hallviska_answer ours = native_balance(sheet, length, library_lent + start, room);
     bool sheet_kept = memcmp(sheet, text, length) == 0;
     struct hallviska_answer theirs = second_balance(sheet, length, second_lent + start, room);
 
