@@ -100,7 +100,7 @@ struct hallviska_answer {
  * refused sheet its own refusal, for 11 comes last. The sheet's bytes are only read.
  *
  * The call always returns. It waits for nothing, allocates and prints nothing, and keeps nothing from one call to the next, so that
- * several threads may call it at once, each with a report of its own. Its stack is not part of what is proved: it took up to 8,000 bytes
+ * several threads may call it at once, each with a report of its own. Its stack is not part of what is proved: it took up to 8,536 bytes
  * where it was measured, so a thread that calls it should have 64 KiB or more.
  */
 struct hallviska_answer hallviska_balance(const uint8_t *sheet, size_t sheet_length, uint8_t *report, size_t report_length);
