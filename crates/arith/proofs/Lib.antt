@@ -5,6 +5,7 @@ pub mod Lin
 pub mod Span
 pub mod Machine
 pub mod NearestLaws
+pub mod Ties
 pub mod RootLaws
 pub mod Examples
 pub mod Signed
