@@ -3,11 +3,10 @@ use Prim.Native.Nat.{ℕ}
 use mathlib.Core.Bool.{cond}
 use mathlib.Core.List.{List, _++_}
 use lib.Dec.{ltb}
-use lib.IntN.{pos}
 use lib.ListN.{length}
 use Rattle.text.specs.Bytes.{bytes}
-use Rattle.text.specs.Decimal.{decimal}
 use Rattle.pen.specs.Writing.{over}
+use Rattle.pen.specs.Refused.{behindComma, refusedAt}
 use Rattle.sheet.specs.declared.Refusal.the-variants.{NoRoom}
 use Rattle.sheet.specs.Refusals.{number, field}
 use Rattle.sheet.specs.Firing.{Firing}
@@ -46,13 +45,9 @@ answerOf s room = answered (readOf document s) room
 unfoldable pub bufferOf : List ℕ → List ℕ → List ℕ
 bufferOf s old = left (readOf document s) old
 
--- a comma and a number
-abbrev pub behindComma : ℕ → List ℕ
-behindComma n = bytes "," ++ decimal (pos n)
-
 -- WHAT A PROGRAM PRINTS: `refused=NUMBER,LINE,FIELD` and LF, or a text of the firing
 abbrev pub refusedText : ℕ → ℕ → ℕ → List ℕ
-refusedText refusal line field = bytes "refused=" ++ (decimal (pos refusal) ++ (behindComma line ++ (behindComma field ++ bytes "\n")))
+refusedText refusal line field = refusedAt refusal line ++ (behindComma field ++ bytes "\n")
 
 -- no refusal's is longer
 abbrev pub refusedMost : ℕ

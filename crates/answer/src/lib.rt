@@ -9,7 +9,7 @@ ghost use Rattle.document.specs.Rules.{Every};
 ghost use Rattle.formulas.specs.Items.{shuttle};
 ghost use Rattle.formulas.specs.Report.{keys, linesText};
 ghost use Rattle.report.specs.Lengths.{reportMost};
-ghost use Rattle.answer.specs.Answer.{refusedAs, fitted, placed, behindComma, refusedText, refusedMost};
+ghost use Rattle.answer.specs.Answer.{refusedAs, fitted, placed, refusedText, refusedMost};
 use report::LINES;
 use sheet::Refusal;
 
@@ -55,24 +55,13 @@ pub fn reported(figures: &[i64; LINES], room: &mut [u8]) -> Answer
     refused(number, 0, 0)
 }
 
-// Puts a comma and a number, and answers where they end.
-fn behind_comma(out: &mut [u8], at: usize, number: u32) -> usize
-    requires { ⌜ at + length (behindComma number) ≤ length (now out) ⌝ }
-    ensures { λ r. ⌜ Written at (behindComma number) (now (out .entry)) (now (out .exit)) r ⌝ }
-{
-    let behind = pen::bytes_at(out, at, b",");
-    pen::number_at(out, behind, number as i64)
-}
-
 // Puts `refused=NUMBER,LINE,FIELD` and LF at the front, and answers how long it is.
 pub fn refusal_text(out: &mut [u8], answer: Answer) -> usize
     requires { ⌜ refusedMost ≤ length (now out) ⌝ }
     ensures { λ r. ⌜ Written 0 (refusedText (answer .refusal) (answer .line) (answer .field)) (now (out .entry)) (now (out .exit)) r ⌝ }
     ensures { λ r. ⌜ r ≤ refusedMost ⌝ }
 {
-    let word = pen::bytes_at(out, 0, b"refused=");
-    let number = pen::number_at(out, word, answer.refusal as i64);
-    let line = behind_comma(out, number, answer.line);
-    let field = behind_comma(out, line, answer.field);
+    let line = pen::refused_at(out, answer.refusal, answer.line);
+    let field = pen::behind_comma(out, line, answer.field);
     pen::bytes_at(out, field, b"\n")
 }

@@ -1,3 +1,4 @@
 pub mod Digits
 pub mod Signed
 pub mod Writing
+pub mod Numbers

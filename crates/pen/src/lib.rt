@@ -5,6 +5,7 @@ ghost use lib.ListN.{length};
 ghost use lib.IntN.{natAbs};
 ghost use Rattle.text.specs.Decimal.{digits, decimal, line};
 ghost use Rattle.pen.specs.Writing.{Written};
+ghost use Rattle.pen.specs.Refused.{behindComma, refusedAt, refusedAtMost};
 
 // How much room a number's text takes.
 pub fn width(z: i64) -> usize
@@ -126,4 +127,24 @@ fn put_bytes(out: &mut [u8], src: &[u8]) -> usize
         i += 1;
     }
     i
+}
+
+// Puts a comma and a number, and answers where they end.
+pub fn behind_comma(out: &mut [u8], at: usize, number: u32) -> usize
+    requires { ⌜ at + length (behindComma number) ≤ length (now out) ⌝ }
+    ensures { λ r. ⌜ Written at (behindComma number) (now (out .entry)) (now (out .exit)) r ⌝ }
+{
+    let behind = bytes_at(out, at, b",");
+    number_at(out, behind, number as i64)
+}
+
+// Puts `refused=NUMBER,PLACE` at the front, with which every program begins a refusal, and answers how long it is.
+pub fn refused_at(out: &mut [u8], number: u32, place: u32) -> usize
+    requires { ⌜ refusedAtMost ≤ length (now out) ⌝ }
+    ensures { λ r. ⌜ Written 0 (refusedAt number place) (now (out .entry)) (now (out .exit)) r ⌝ }
+    ensures { λ r. ⌜ r ≤ refusedAtMost ⌝ }
+{
+    let word = bytes_at(out, 0, b"refused=");
+    let behind = number_at(out, word, number as i64);
+    behind_comma(out, behind, place)
 }

@@ -8,11 +8,11 @@ use lib.IntN.{ℤ}
 use lib.ListN.{length}
 use Rattle.text.specs.Bytes.{bytes}
 use Rattle.text.specs.Decimal.{decimal}
 use Rattle.pen.specs.Writing.{Written}
 use Rattle.pen.proofs.Writing.{next}
-use Rattle.answer.proofs.Numbers.{same}
-use Rattle.answer.proofs.behind_comma.Statement.{statement}
-use Rattle.answer.proofs.behind_comma.Tie as tie
+use Rattle.pen.proofs.Numbers.{same}
+use Rattle.pen.proofs.behind_comma.Statement.{statement}
+use Rattle.pen.proofs.behind_comma.Tie as tie
 
 -- the start, from behind the comma
 abbrev start : tie.After-bytes-at → tie.Start
