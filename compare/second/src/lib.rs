@@ -8,6 +8,7 @@
 
 mod flue;
 pub mod limits;
+pub mod logger;
 mod matter;
 mod print;
 mod scan;
