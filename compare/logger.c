@@ -11,7 +11,7 @@
 #include <string.h>
 #include <time.h>
 
-#include "hallviska_logger.h"
+#include "hallviska.h"
 
 typedef struct hallviska_mean mean_of(const uint8_t *readings, size_t length);
 

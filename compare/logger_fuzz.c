@@ -3,7 +3,7 @@
 #include <stdlib.h>
 #include <string.h>
 
-#include "hallviska_logger.h"
+#include "hallviska.h"
 
 struct hallviska_mean second_mean_of(const uint8_t *readings, size_t length);
 

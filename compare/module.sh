@@ -1,4 +1,4 @@
-# For scripts of bash to read, after x86-64.sh: `keep_module [CRATE]` makes the library of this crate (kiln), and keeps the module that the
+# For scripts of bash to read, after x86-64.sh: `keep_module` makes the library, and keeps the module that the
 # toolchain compiles it from as $built/module.bc; `compile_module OBJECT WORD...` compiles that module as the library is compiled, but for
 # this processor. The script sets `built` before.
 
@@ -26,7 +26,7 @@ for word; do case \$word in *.bc) cp "\$word" '$PWD/$built/module.bc' ;; esac; d
 exec '$(realpath -s "$kit")/$deep/clang' "\$@"
 END
     chmod +x "$copy/$deep/clang"
-    RATTLE_HOME=$copy quietly staticlib.log rt staticlib "${1:-hallviska}"
+    RATTLE_HOME=$copy quietly staticlib.log rt staticlib hallviska
     [ -f "$built/module.bc" ] || { echo "$0: the toolchain has compiled no module" >&2; exit 2; }
 }
 

@@ -8,7 +8,8 @@
 #include <stdio.h>
 #include <stdlib.h>
 
-#include "hallviska_logger.h"
+#include "hallviska.h"
+#include "hallviska_words.h"
 
 enum { SHOWN = 0, REFUSED = 1, FAILED = 2 };
 enum { BYTES_MOST = HALLVISKA_READINGS_MOST * HALLVISKA_READING_BYTES, DAY = 86400 };
@@ -25,18 +26,11 @@ static void show_mean(size_t readings, int32_t tenths)
 /* What the volunteer can do something about, in the volunteer's words. */
 static const char *words(uint32_t refusal, size_t length)
 {
-    switch (refusal) {
-    case HALLVISKA_READINGS_LENGTH:
-        if (length == 0)
-            return "the file is empty";
-        return length > BYTES_MOST ? "there are more than 2,880 readings" : "the file is torn: its last reading has not all of its four bytes";
-    case HALLVISKA_READING_NOT_FINITE:
-        return "is no number, as where the wire is broken or the plug is loose";
-    case HALLVISKA_READING_OUTSIDE:
-        return "is below -20 or above 1,800 degrees C";
-    default:
-        return "has a fault that this program does not know";
-    }
+    if (refusal != HALLVISKA_READINGS_LENGTH)
+        return hallviska_reading_words(refusal);
+    if (length == 0)
+        return "the file is empty";
+    return length > BYTES_MOST ? "there are more than 2,880 readings" : "the file is torn: its last reading has not all of its four bytes";
 }
 
 /* A reading stands as many intervals behind the first as there are readings before it. */

@@ -33,6 +33,18 @@ static inline const char *hallviska_refusal_words(uint32_t refusal)
     }
 }
 
+/* What a refusal of a logger's readings means (enum hallviska_reading_refusal). Those of one reading are said of it: "reading 7 is .." */
+static inline const char *hallviska_reading_words(uint32_t refusal)
+{
+    switch (refusal) {
+    case HALLVISKA_READINGS_TAKEN: return "the readings are taken";
+    case HALLVISKA_READINGS_LENGTH: return "there is no reading, there are more than 2,880, or the last one has not all of its four bytes";
+    case HALLVISKA_READING_NOT_FINITE: return "is no number, as where the wire is broken or the plug is loose";
+    case HALLVISKA_READING_OUTSIDE: return "is below -20 or above 1,800 degrees C";
+    default: return "has a fault that this program does not know";
+    }
+}
+
 /* The key of a line of the report (enum hallviska_line). */
 static inline const char *hallviska_line_key(uint32_t line)
 {

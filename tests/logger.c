@@ -14,7 +14,7 @@
 #include <sys/mman.h>
 #include <unistd.h>
 
-#include "hallviska_logger.h"
+#include "hallviska.h"
 
 enum { LENT = 32 * 4096 };
 

@@ -1,6 +1,6 @@
 /* Stands in for the library and errs in one WAY where two readings come, so that tools/logger sees that its harness tells. Else it says what
  * the independent program says. */
-#include "hallviska_logger.h"
+#include "hallviska.h"
 
 struct hallviska_mean second_mean_of(const uint8_t *readings, size_t length);
 
