@@ -1,10 +1,7 @@
 -- The stages: what the code's array shows of their rows, on either sheet.
 use Prim.Native.Nat.{ℕ, _≤_}
 use mathlib.Core.Bool.{Bool, true, false}
-use mathlib.Core.Option.{Option, none, some}
 use mathlib.Core.List.{List, [], _∷_}
-use lib.IntN.{ℤ, _+ℤ_}
-use Rattle.sheet.specs.Firing.{Analysis, Stage}
 use Rattle.sheet.specs.declared.Stage.{Stage as Stageˢ}
 use Rattle.document.specs.Sheet2.{stageLineBy, stagingBy}
 use Rattle.document.specs.Schema.{Row, at}
@@ -15,14 +12,6 @@ use Rattle.sheet.specs.Quantities.{stagesMost}
 use Rattle.document.specs.Entries.{paragraphsOf}
 use Rattle.blocks.specs.declared.stages.Staging.{Staging}
 use Rattle.due.specs.Said.{Saying, saysAll, GroupRead}
-
--- CO with what an analyser says besides, of rule 14
-abbrev pub togetherBy : ℤ → Option Analysis → ℤ
-togetherBy co none = co
-togetherBy co (some a) = co +ℤ a .pair +ℤ a .oxygen
-
-abbrev pub together : Stage → ℤ
-together x = togetherBy (x .co) (x .analysis)
 
 -- the struct of a row: what it shows is the row's stage, and where the flue is not analysed nothing else stands in it
 abbrev pub heldBy : Bool → Row → Stageˢ

@@ -3,11 +3,10 @@ ghost use mathlib.Core.Path.{_≡_};
 ghost use mathlib.Core.Bool.{true, false};
 ghost use mathlib.Core.List.{[]};
 ghost use mathlib.Core.Option.{none};
-ghost use lib.IntN.{pos};
+ghost use lib.IntN.{pos, _+ℤ_};
 ghost use lib.Signed.{ltZ};
 ghost use Prim.Native.Nat.{_≤_};
 ghost use Rattle.text.specs.Bytes.{bytes};
-ghost use Rattle.sheet.specs.Shown.{stage};
 ghost use Rattle.sheet.specs.Blank.{blankStage};
 ghost use Rattle.sheet.specs.Quantities.{stagesMost, stagesLeast, analysisMost};
 ghost use Rattle.document.specs.Schema.{plain};
@@ -18,7 +17,7 @@ ghost use Rattle.document.specs.Reader.{Sheet, countLine, readLine, readRows};
 ghost use Rattle.due.specs.Place.{Ready, After};
 ghost use Rattle.due.specs.Taking.{from, Taken};
 ghost use Rattle.due.specs.Block.{CountAfter, Filled};
-ghost use Rattle.blocks.specs.Stages.{StagesRead, heldBy, itself, together as togetherOf};
+ghost use Rattle.blocks.specs.Stages.{StagesRead, heldBy, itself};
 use due::Place;
 use due::due;
 use due::ranged;
@@ -146,19 +145,15 @@ pub struct StageLine {
     pub stage: Stage,
 }
 
-// Carbon monoxide with what an analyser says besides; without one it is alone.
+// Carbon monoxide with what an analyser says besides.
 fn together(x: Stage) -> Number
-    ensures { λ r. ⌜ r .0 ≡ togetherOf (stage x) ⌝ }
+    ensures { λ r. ⌜ r .0 ≡ x .co .0 +ℤ x .analysis .pair .0 +ℤ x .analysis .oxygen .0 ⌝ }
 {
     let co = x.co;
     let analysis = x.analysis;
     let pair = analysis.pair;
     let oxygen = analysis.oxygen;
-    if analysis.read {
-        Number(co.0 as i64 + pair.0 as i64 + oxygen.0 as i64)
-    } else {
-        Number(co.0 as i64)
-    }
+    Number(co.0 as i64 + pair.0 as i64 + oxygen.0 as i64)
 }
 
 // Whether that is more than a dry flue can have.
