@@ -32,21 +32,30 @@ field c = let lent = c .before .before in lent .before .before .before
 abbrev start : tie.After-refused-at → tie.Start
 start c = c .before .before .before
 
--- the field is a number of 32 bits, so its text is short
-field-short : (c : tie.After-refused-at) → length (decimal (pos (start c .args .answer .field))) ≤ 11
-field-short c = let f = start c .args .answer .field in short f (omega (arith, start c .good))
+-- line and field are numbers of 32 bits, so the text of each is short, whichever is put last
+record Short (l f : ℕ) : Type 0 where
+  line : length (decimal (pos l)) ≤ 11
+  field : length (decimal (pos f)) ≤ 11
+
+both-short : (c : tie.After-refused-at) → let a = start c .args .answer in Short (a .line) (a .field)
+both-short c =
+    let a = start c .args .answer in
+    let g = start c .good in
+    record { line = short (a .line) (omega (arith, g)); field = short (a .field) (omega (arith, g)) }
 
 behind-comma-requires : tie.Need-behind-comma-requires
 behind-comma-requires c κs =
     let l = c .before .before .before in
-    omega (arith, start l .pre, field-short l, l .refused-at .ensures .1, l .refused-at .kept .0)
+    let q = both-short l in
+    omega (arith, start l .pre, q .line, q .field, l .refused-at .ensures .1, l .refused-at .kept .0)
 
 bytes-at-requires : tie.Need-bytes-at-requires
 bytes-at-requires c κs =
     let f = c .before .before .before .before in
     let l = line f in
     let b = f .behind-comma in
-    omega (arith, start l .pre, field-short l, l .refused-at .ensures .1, l .refused-at .kept .0, b .ensures .ends, b .kept .0)
+    let q = both-short l in
+    omega (arith, start l .pre, q .line, q .field, l .refused-at .ensures .1, l .refused-at .kept .0, b .ensures .ends, b .kept .0)
 
 returns : tie.Need-returns
 returns c =
@@ -58,7 +67,7 @@ returns c =
     let three = next (next (l .refused-at .ensures .0) (f .behind-comma .ensures)) (e .bytes-at .ensures) in
     let text = pieces (a .refusal) (a .line) (a .field) in
     let whole = subst (λ (t : List ℕ). Written 0 t (s .args .out .now) (e .bytes-at .last .0) (e .bytes-at .result)) text three in
-    (whole, omega (arith, field-short l, l .refused-at .ensures .1, f .behind-comma .ensures .ends, e .bytes-at .ensures .ends))
+    (whole, omega (arith, both-short l .field, l .refused-at .ensures .1, f .behind-comma .ensures .ends, e .bytes-at .ensures .ends))
 
 pub refusal-text-spec : {M : Type 1} → statement M
 refusal-text-spec =
