@@ -34,30 +34,35 @@ word c = c .before .before .before .before
 abbrev number : tie.After-behind-comma → tie.After-number-at
 number c = c .before .before .before .before
 
--- both numbers' texts are short
-record Short (s : tie.Start) : Type 0 where
-  refusal : length (decimal (toZ w64 (s .args .number))) ≤ 11
-  place : length (decimal (pos (s .args .place))) ≤ 11
+-- a number's text is short, as a call has it and as it is; so are both, whichever is put last
+record Short (n : ℕ) : Type 0 where
+  called : length (decimal (toZ w64 n)) ≤ 11
+  text : length (decimal (pos n)) ≤ 11
 
-both-short : (s : tie.Start) → Short s
-both-short s =
-    let n = s .args .number in
-    let h = s .fits .number .fits in
-    record { refusal = rw (same n h) (short n h); place = short (s .args .place) (s .fits .place .fits) }
+is-short : (n : ℕ) → n < 2 ^ 32 → Short n
+is-short n h = record { called = rw (same n h) (short n h); text = short n h }
+
+number-short : (s : tie.Start) → Short (s .args .number)
+number-short s = is-short (s .args .number) (s .fits .number .fits)
+
+place-short : (s : tie.Start) → Short (s .args .place)
+place-short s = is-short (s .args .place) (s .fits .place .fits)
 
 number-at-requires : tie.Need-number-at-requires
 number-at-requires c κs =
     let w = c .before .before .before in
     let s = start w in
-    omega (arith, s .pre, both-short s .refusal, w .bytes-at .ensures .ends, w .bytes-at .kept .0)
+    omega (arith, s .pre, number-short s .called, place-short s .called, w .bytes-at .ensures .ends, w .bytes-at .kept .0)
 
 behind-comma-requires : tie.Need-behind-comma-requires
 behind-comma-requires c κs =
     let n = c .before .before .before in
     let w = word n in
     let s = start w in
-    let q = both-short s in
-    omega (arith, s .pre, q .refusal, q .place, w .bytes-at .ensures .ends, w .bytes-at .kept .0, n .number-at .ensures .ends, n .number-at .kept .0)
+    let a = number-short s in
+    let b = place-short s in
+    let put = n .number-at in
+    omega (arith, s .pre, a .called, a .text, b .called, b .text, w .bytes-at .ensures .ends, w .bytes-at .kept .0, put .ensures .ends, put .kept .0)
 
 returns : tie.Need-returns
 returns c =
@@ -66,11 +71,12 @@ returns c =
     let w = word n in
     let s = start w in
     let a = s .args in
-    let q = both-short s in
+    let short-number = number-short s .called in
+    let short-place = place-short s .text in
     let three = next (next (w .bytes-at .ensures) (n .number-at .ensures)) (p .behind-comma .ensures) in
     let text = pieces (a .number) (a .place) (s .fits .number .fits) in
     let whole = subst (λ (t : List ℕ). Written 0 t (a .out .now) (p .behind-comma .last .0) (p .behind-comma .result)) text three in
-    (whole, omega (arith, q .refusal, q .place, w .bytes-at .ensures .ends, n .number-at .ensures .ends, p .behind-comma .ensures .ends))
+    (whole, omega (arith, short-number, short-place, w .bytes-at .ensures .ends, n .number-at .ensures .ends, p .behind-comma .ensures .ends))
 
 pub refused-at-spec : {M : Type 1} → statement M
 refused-at-spec =
