@@ -1,7 +1,7 @@
 // Holds the library to its header from C++: vector SHEET REPORT, an accepted sheet and its report.
 //
-// A vector that is empty may have null for its data, which the library must not be handed: hallviska_balance_nullable sees to it. It prints
-// one line, or what is not as due, and ends with status 1.
+// A vector that is empty may have null for its data, which the library must not be handed: hallviska_balance_nullable and
+// hallviska_mean_of_nullable see to it. It prints one line, or what is not as due, and ends with status 1.
 #include <cstdio>
 #include <cstring>
 #include <fstream>
@@ -37,6 +37,11 @@ hallviska_answer asked(const bytes &sheet, bytes &report)
     return hallviska_balance_nullable(sheet.data(), sheet.size(), report.data(), report.size());
 }
 
+bool is(const hallviska_mean &answer, std::uint32_t refusal, std::uint32_t reading, std::int32_t mean)
+{
+    return answer.refusal == refusal && answer.reading == reading && answer.mean == mean;
+}
+
 bool is(const hallviska_answer &answer, std::uint32_t refusal, std::uint32_t line, std::uint32_t field, std::size_t length)
 {
     return answer.refusal == refusal && answer.line == line && answer.field == field && answer.length == length;
@@ -60,7 +65,16 @@ int main(int count, char **names)
     due("its report", !report.empty() && std::memcmp(room.data(), report.data(), report.size()) == 0);
     due("what is behind it", bytes(room.begin() + static_cast<std::ptrdiff_t>(report.size()), room.end()) ==
                                  bytes(room.size() - report.size(), 0x5a));
+    // 20.25 and 20.75 degrees, and then an infinity
+    const bytes readings = {0x00, 0x00, 0xa2, 0x41, 0x00, 0x00, 0xa6, 0x41}, broken = {0x00, 0x00, 0xa2, 0x41, 0x00, 0x00, 0x80, 0x7f};
+    due("no readings", is(hallviska_mean_of_nullable(none.data(), none.size()), HALLVISKA_READINGS_LENGTH, 0, 0));
+    due("two readings", is(hallviska_mean_of_nullable(readings.data(), readings.size()), HALLVISKA_READINGS_TAKEN, 0, 205));
+    due("a reading that is no number", is(hallviska_mean_of_nullable(broken.data(), broken.size()), HALLVISKA_READING_NOT_FINITE, 2, 0));
     // every refusal and every line has words of its own, and so has what is not known
+    for (std::uint32_t one = 17; one <= 21; one++)
+        for (std::uint32_t other = 17; other < one; other++)
+            due("the words of a reading's refusal", (one == 21 && other == 17) !=
+                                                        (std::strcmp(hallviska_reading_words(one), hallviska_reading_words(other)) != 0));
     for (std::uint32_t one = 0; one <= 15; one++)
         for (std::uint32_t other = 0; other < one; other++)
             due("the words of a refusal", std::strcmp(hallviska_refusal_words(one), hallviska_refusal_words(other)) != 0);
