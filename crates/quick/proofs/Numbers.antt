@@ -3,22 +3,24 @@
 use mathlib.Core.Path.{_≡_, refl, sym, ap, _∙_}
 use mathlib.Core.Bool.{Bool, true, false, _&&_}
 use mathlib.Core.List.{List, [], _∷_, _++_}
-use Prim.Native.Nat.{ℕ, _+_, _-_, _*_, _^_, _≤_, _<_}
+use Prim.Native.Nat.{ℕ, zero, suc, _+_, _-_, _*_, _^_, _≤_, _<_}
 use native.Mathlib.Nat.{add-zero, pow-le-pow-right}
 use native.Mathlib.Numerals.{add-one}
 use native.Mathlib.Decide.{decLe}
 use native.Mathlib.Omega.{arith}
 use lib.ListN.{length, getD, drop, set, length-append}
 use lib.Seq.{drop-cons, getD-take, getD-drop}
-use lib.IntN.{ℤ, pos}
+use lib.IntN.{ℤ, pos, negsuc, negℤ}
+use lib.Signed.{ltZ}
 use lib.Dec.{ltb, eqb, lit<}
 use borrow.Author.Tests.{eq-eqb, ne-eqb, lt-ltb, le-ltb, le-leb, ltb-true, eqb-true}
 use Rattle.text.specs.declared.Num.the-variants.{Value, NotANumber}
 use Rattle.text.specs.Bytes.{bytes}
+use Rattle.text.specs.Decimal.{decimal}
 use Rattle.text.specs.Number.{digitsRead, leadingZero, unsigned, numberWithin, numberOf}
 use Rattle.text.specs.Scanning.{upTo, find, count, begins}
-use Rattle.text.proofs.Reading.{only-text}
-use Rattle.text.proofs.Scanning.{upTo-front, found, find-hit}
+use Rattle.text.proofs.Reading.{read-back, only-text, only-small}
+use Rattle.text.proofs.Scanning.{upTo-front, found, find-hit, find-miss}
 use Rattle.document.specs.Schema.{pieces}
 use Rattle.document.proofs.Pieces.{pieces-last, pieces-more, decimal-clear}
 use Rattle.form.specs.Fields.{accepted, fieldsAt}
@@ -89,6 +91,23 @@ digits-seen s at c k m p h e q z f d =
       ends = omega arith;
       says = rw (no-sign l (pos m) r, lt-ltb 0 (length l) (omega arith), le-leb (length l) 9 (omega arith), no-zero l (λ o w. z (omega arith) (sym b ∙ w))) r;
     }
+
+-- a number above zero, with a sign before it, is as much below zero
+below : (l : List ℕ) (z : ℤ) → ltZ z (pos 1) ≡ false → numberOf l ≡ Value z → numberOf (45 ∷ l) ≡ Value (negℤ z)
+unfolding decimal
+below l (pos zero) h e = let w : _≡_ {A = ℕ} 0 1 = cc in absurd (omega arith)
+below l (negsuc n) h e = let w : _≡_ {A = ℕ} 0 1 = cc in absurd (omega arith)
+below l (pos (suc n)) h e = rw (only-text 9 l (pos (suc n)) e) (read-back 9 (negsuc n) (lit< tt) (only-small 9 l (pos (suc n)) e))
+
+-- THE LAW: a sign and a number above zero behind it are a number
+pub behind-sign : (s : List ℕ) (at c : ℕ) (z : ℤ) (next : ℕ) → at < length s → getD s at 0 ≡ 45 → c < 45 → ltZ z (pos 1) ≡ false
+    → Number s (at + 1) c z next → Number s at c (negℤ z) next
+unfolding upTo
+behind-sign s at c z next h e l p w =
+    let other : getD s at 0 ≡ c → ⊥ = λ q. omega arith in
+    let f = find-miss c s at h other in
+    let d : upTo c (drop at s) ≡ 45 ∷ upTo c (drop (at + 1) s) = rw (add-one, drop-cons s at 0, ne-eqb (getD s at 0) c other, e) in
+    record { inside = omega (arith, f, w .inside); ends = omega (arith, f, w .ends); says = rw d (below (upTo c (drop (at + 1) s)) z p (w .says)) }
 
 -- a number is the next field of a row
 module _ (s : List ℕ) (p n i : ℕ) (vals : List ℤ) (z : ℤ) (q : ℕ) where

@@ -1,11 +1,14 @@
 // A plain line of a sheet in one pass: its key (`behind`), and its numbers (`row`). Where anything is not plainly as it should be they say no and
 // name no fault; the crate `form` then reads the line with care.
+mod signs;
+
 ghost use mathlib.Core.Path.{_≡_};
 ghost use Prim.Native.Nat.{_≤_, _<_};
 ghost use Rattle.sheet.specs.Quantities.{fieldsMost};
 ghost use Rattle.quick.specs.Key.{standing, behindOf};
 ghost use Rattle.quick.specs.Number.{Number};
 ghost use Rattle.quick.specs.Row.{RowRead};
+use crate::signs::rest;
 use sheet::FIELDS_MOST;
 use std::num::wrapping_sub_u8;
 
@@ -43,6 +46,7 @@ pub fn behind(s: &[u8], at: usize, key: &[u8]) -> usize
 }
 
 // Reads n numbers with commas between them and an LF behind them into the first n of v, and answers the place after them, or 0.
+// A sign has a loop of its own, for the compiler: docs/DECISIONS.md, "A plain line is read in one pass, into an array that is lent".
 pub fn row(s: &[u8], start: usize, n: usize, v: &mut [i64; FIELDS_MOST]) -> usize
     requires { ⌜ n ≤ fieldsMost ⌝ }
     ensures { λ r. ⌜ RowRead (now (s .entry)) start n (now (v .entry)) (now (v .exit)) r ⌝ }
@@ -53,7 +57,7 @@ pub fn row(s: &[u8], start: usize, n: usize, v: &mut [i64; FIELDS_MOST]) -> usiz
         let c = if i + 1 == n { b'\n' } else { b',' };
         let q = number(s, at, c);
         if q.next == 0 {
-            return 0;
+            return rest(s, at, n, i, v);
         }
         let z = q.value;
         v[i] = z;
@@ -66,7 +70,7 @@ pub fn row(s: &[u8], start: usize, n: usize, v: &mut [i64; FIELDS_MOST]) -> usiz
     0
 }
 
-// The number without a sign at a place that the byte c closes. A sign is rare, so the careful reader has it.
+// The number without a sign at a place that the byte c closes.
 fn number(s: &[u8], at: usize, c: u8) -> Whole
     requires { ⌜ c < 48 ⌝ }
     ensures { λ r. ⌜ ((r .next ≡ 0 → ⊥) → Number (now (s .entry)) at c (r .value) (r .next)) ⌝ }

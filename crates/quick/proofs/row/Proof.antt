@@ -1,23 +1,19 @@
--- `row` meets its contract: reading on from each place, with the numbers stored before it, gives what reading the whole
--- gives. Assumes nothing.
-use mathlib.Core.Path.{_≡_, refl, sym, _∙_}
+-- `row` meets its contract: each number without a sign is the one that is due, and the rest is read by `rest`. Assumes nothing.
+use mathlib.Core.Path.{_≡_}
 use mathlib.Core.Logic.{⊎-elim}
 use Prim.Native.Nat.{_-_}
 use native.Mathlib.Omega.{arith}
-use lib.ListN.{length, drop, length-set}
-use lib.Seq.{drop-set-lt}
 use mir.Syntax.{w64}
 use mir.Val.{toZ, ofZ}
 use mir.ValLaws.{toZ-ofZ}
 use lib.Dec.{lit<}
 use borrow.Author.Needs.{needs}
-use Rattle.form.specs.Fields.{fieldsAt}
-use Rattle.quick.proofs.Numbers.{row-more, row-last}
+use Rattle.quick.proofs.Rows.{Due, begun, declined, handed, more, last}
 use Rattle.quick.proofs.row.Statement.{statement}
 use Rattle.quick.proofs.row.Tie as tie
 
 abbrev Inv-loop : tie.InvT-loop
-Inv-loop s start n v₀ at₀ i₀ v at i = (fieldsAt s at n i v ≡ fieldsAt s start n 0 v₀) × (length v ≡ length v₀) × (drop n v ≡ drop n v₀)
+Inv-loop s start n v₀ at₀ i₀ v at i = Due s start n 0 v₀ at i v
 
 abbrev μ-loop : tie.MeasureT-loop
 μ-loop s start n v₀ at₀ i₀ v at i = n - i
@@ -34,38 +30,27 @@ number-requires c κs = ⊎-elim (λ w. rw (w .1) (lit< tt)) (λ w. rw (w .1) (l
 
 returns : tie.Need-returns Inv-loop μ-loop
 returns c =
-    let number = c .before .before in
-    let l = number .before .before .before .loop in
-    record { read = λ q. absurd (q refl); long = l .inv .1; beyond = l .inv .2 }
+    let read = c .before .before .before .before in
+    handed (read .before .before .before .loop .inv) (c .rest .ensures)
 
 returns-2 : tie.Need-returns-2 Inv-loop μ-loop
 returns-2 c =
-    let number = c .before .before .before .before in
-    let j = number .before in
+    let read = c .before .before .before .before in
+    let j = read .before in
     let l = j .before .before .loop in
     let h : j .if1 .c ≡ 10 = ⊎-elim (λ w. w .1) (λ w. absurd (w .0 .left (c .if3 .taken))) (j .if1 .came) in
-    record {
-      read = λ q. rw (kept (c .before)) (sym (row-last _ _ _ _ _ _ _ (rw h at (number .number .ensures q)) (c .if3 .taken)) ∙ l .inv .0);
-      long = simp length-set (l .inv .1);
-      beyond = drop-set-lt _ (l .v) (l .i) _ (j .before .loop-test .taken) ∙ l .inv .2;
-    }
+    rw (kept (c .before)) (last (l .inv) (j .before .loop-test .taken) _ (c .if3 .taken) (rw h at (read .number .ensures)))
 
 loop-again : tie.Need-loop-again Inv-loop μ-loop
 loop-again c =
-    let number = c .before .before .before .before in
-    let j = number .before in
+    let read = c .before .before .before .before in
+    let j = read .before in
     let l = j .before .before .loop in
-    let h : j .if1 .c ≡ 44 = ⊎-elim (λ w. absurd (c .if3 .left (w .0 .taken))) (λ w. w .1) (j .if1 .came) in (
-      rw (kept (c .before)) (sym (row-more _ _ _ _ _ _ _ (rw h at (number .number .ensures (c .before .before .if2 .left)))) ∙ l .inv .0),
-      simp length-set (l .inv .1),
-      drop-set-lt _ (l .v) (l .i) _ (j .before .loop-test .taken) ∙ l .inv .2,
-    )
-
-returns-3 : tie.Need-returns-3 Inv-loop μ-loop
-returns-3 c = let l = c .before .loop in record { read = λ q. absurd (q refl); long = l .inv .1; beyond = l .inv .2 }
+    let h : j .if1 .c ≡ 44 = ⊎-elim (λ w. absurd (c .if3 .left (w .0 .taken))) (λ w. w .1) (j .if1 .came) in
+    rw (kept (c .before)) (more (l .inv) (j .before .loop-test .taken) _ (rw h at (read .number .ensures (c .before .before .if2 .left))))
 
 pub row-spec : {M : Type 1} → statement M
 row-spec =
     tie.close
-    (tie.spec Inv-loop μ-loop (λ c. search needs) (λ c. search needs) number-requires returns (λ c. search needs) (λ c. search needs)
-    (λ c. search needs) returns-2 (λ c. search needs) loop-again returns-3)
+    (tie.spec Inv-loop μ-loop (λ c. begun) (λ c. search needs) number-requires (λ c κs. search needs) returns (λ c. search needs) (λ c. search needs)
+    (λ c. search needs) returns-2 (λ c. search needs) loop-again (λ c. declined (c .before .loop .inv)))
