@@ -1,16 +1,17 @@
 -- `signed` meets its contract: `number` says what stands at the place, or what stands behind the sign there. Assumes nothing.
-use mathlib.Core.Path.{_≡_, refl}
+use mathlib.Core.Path.{_≡_, refl, sym, ap, subst, _∙_}
 use mathlib.Core.Bool.{false}
 use Prim.Native.Nat.{ℕ, zero, suc, _<_}
 use native.Mathlib.Omega.{arith}
 use lib.ListN.{length}
-use lib.IntN.{ℤ, pos, negsuc, negℤ, +ℤ-idl}
+use lib.IntN.{ℤ, pos, negsuc, negℤ, _-ℤ_, +ℤ-idl}
 use lib.Signed.{ltZ}
 use mir.Syntax.{w64}
 use mir.Val.{SFits, toZ, ofZ}
 use mir.ValLaws.{toZ-ofZ}
 use borrow.Author.Needs.{needs}
 use borrow.Author.Tests.{leb-false, eqb-true, not-false}
+use Rattle.quick.specs.Number.{Number}
 use Rattle.quick.proofs.Numbers.{behind-sign}
 use Rattle.quick.proofs.signs.signed.Statement.{statement}
 use Rattle.quick.proofs.signs.signed.Tie as tie
@@ -52,8 +53,11 @@ turned (pos zero) f e = record { sfits = omega (arith, f .sfits) }
 turned (pos (suc n)) f e = record { sfits = omega (arith, f .sfits) }
 turned (negsuc n) f e = let w : _≡_ {A = ℕ} 0 1 = cc in absurd (omega arith)
 
+opposite : (c : tie.Else4) → pos 0 -ℤ toZ w64 (ofZ w64 (size c)) ≡ negℤ (size c)
+opposite c = rw (toZ-ofZ w64 (size c) (fits c)) (+ℤ-idl (negℤ (size c)))
+
 sub-t15 : tie.Need-sub-t15
-sub-t15 c = rw (toZ-ofZ w64 (size c) (fits c), +ℤ-idl (negℤ (size c))) (turned (size c) (fits c) (above c))
+sub-t15 c = subst (SFits w64) (sym (opposite c)) (turned (size c) (fits c) (above c))
 
 returns-3 : tie.Need-returns-3
 returns-3 c = λ q.
@@ -61,7 +65,8 @@ returns-3 c = λ q.
     let sign = behind .before in
     let a = start sign .args in
     let minus = eqb-true _ _ (not-false _ (sign .if3 .left)) in
-    rw (toZ-ofZ w64 (size c) (fits c), +ℤ-idl (negℤ (size c)), toZ-ofZ w64 (negℤ (size c)) (turned (size c) (fits c) (above c)))
+    let is = ap (λ (z : ℤ). toZ w64 (ofZ w64 z)) (opposite c) ∙ toZ-ofZ w64 (negℤ (size c)) (turned (size c) (fits c) (above c)) in
+    subst (λ (z : ℤ). Number (a .s .now) (a .at) (a .c) z (behind .number2 .result .next)) (sym is)
     (behind-sign (a .s .now) (a .at) (a .c) (size c) _ (inside sign) minus (start sign .pre) (above c) (behind .number2 .ensures q))
 
 pub signed-spec : {M : Type 1} → statement M
