@@ -37,17 +37,18 @@ fn signed(s: &[u8], at: usize, c: u8) -> Whole
     requires { ⌜ c < 45 ⌝ }
     ensures { λ r. ⌜ ((r .next ≡ 0 → ⊥) → Number (now (s .entry)) at c (r .value) (r .next)) ⌝ }
 {
-    let q = number(s, at, c);
-    if q.next != 0 || s.len() <= at || s[at] != b'-' {
-        return q;
+    let minus = at < s.len() && s[at] == b'-';
+    let from = if minus { at + 1 } else { at };
+    let q = number(s, from, c);
+    if minus {
+        let z = q.value;
+        if z < 1 {
+            return Whole { value: 0, next: 0 };
+        }
+        return Whole {
+            value: -z,
+            next: q.next,
+        };
     }
-    let size = number(s, at + 1, c);
-    let z = size.value;
-    if z < 1 {
-        return Whole { value: 0, next: 0 };
-    }
-    Whole {
-        value: -z,
-        next: size.next,
-    }
+    q
 }
