@@ -127,6 +127,7 @@ cases =
     ∷ case (printed worked (share useful)) 2928 1
     -- T-03: c before and after it is rounded, and a tie
     ∷ case (flueCapacity stage) 1384 1
+    ∷ case (pos (analysedHeat 0 0 0 0)) 12960000 1000
     ∷ case (flueCapacity (analysed 0 0 0 0)) 1296 1
     ∷ case (pos (analysedHeat 0 1050 190 8200)) 14526918 1000
     ∷ case (flueCapacity (analysed 0 1050 190 8200)) 1453 1
@@ -134,6 +135,7 @@ cases =
     ∷ case (flueCapacity (analysed 50 860 420 2350)) 1348 1
     ∷ case (pos (analysedHeat 0 2500 1500 10000)) 16103500 1000
     ∷ case (flueCapacity (analysed 0 2500 1500 10000)) 1610 1
+    ∷ case (pos (analysedHeat 0 1400 0 250)) 13425000 1000
     ∷ case (flueCapacity (analysed 0 1400 0 250)) 1342 1
     ∷ case (flueHeat paper (ofGas methane) (pos 0) (pos 200) (analysed 0 1050 190 8200)) 2698522258 joule
     -- T-04, which none of these tells from halves away from zero: 1,876,132.5 is 1,876,132, and 2,476,132.5 is 2,476,132
