@@ -10,6 +10,7 @@ use Rattle.sheet.specs.Quantities.{ambient, moisture, analysedFlue}
 use Rattle.document.specs.Rules.{Every}
 use Rattle.document.specs.Lawful.{In, StageIn}
 use Rattle.formulas.specs.Rounding.{paper}
+use Rattle.formulas.specs.Tables.{flueRow}
 use Rattle.formulas.specs.Formulas.{Burning, dryFlue}
 use Rattle.formulas.specs.Figures.{Within, Figure}
 use Rattle.formulas.specs.Sizes.{dryFlueMost, carriedMost}
@@ -31,11 +32,15 @@ pub record RateFits (excess air X vapour : ℤ) : Type 0 where
 abbrev pub hottest : ℕ
 hottest = natAbs (analysedFlue .greatest)
 
+-- the greatest entry of the table, CO2's in its last row
+abbrev pub entryMost : ℕ
+entryMost = flueRow 10 .co2
+
 abbrev pub straight : List ℕ → ℕ → ℕ
 straight column T = getD column (T / 1000) 0 * (1000 - T % 1000) + getD column (T / 1000 + 1) 0 * (T % 1000)
 
 pub record ColumnIn (column : List ℕ) (T : ℕ) : Type 0 where
-  pub entries : Every (λ x. x ≤ 2215) column
+  pub entries : Every (λ x. x ≤ entryMost) column
   pub hot : T ≤ hottest
 
 -- a stage that burns a fuel

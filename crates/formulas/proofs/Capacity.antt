@@ -49,10 +49,10 @@ column-most gas m t T =
 pub analysed-most : (co p o T : ℕ) → p ≤ natAbs (pair .greatest) → co + p + o ≤ analysisMost → analysedHeat co p o T ≤ analysedHeatMost
 unfolding analysedHeat
 analysed-most co p o T h k =
-    let a = mul-le-mul-left co (column-most (λ g. g .co) 1413 tt T) in
-    let b = mul-le-mul-left p (column-most (λ g. g .co2) 2215 tt T) in
-    let c = mul-le-mul-left o (column-most (λ g. g .o2) 1476 tt T) in
-    let d = mul-le-mul-left (10000 - (co + p + o)) (column-most (λ g. g .n2) 1392 tt T) in
+    let a = mul-le-mul-left co (column-most (λ g. g .co) (flueRow 10 .co) tt T) in
+    let b = mul-le-mul-left p (column-most (λ g. g .co2) (flueRow 10 .co2) tt T) in
+    let c = mul-le-mul-left o (column-most (λ g. g .o2) (flueRow 10 .o2) tt T) in
+    let d = mul-le-mul-left (10000 - (co + p + o)) (column-most (λ g. g .n2) (flueRow 10 .n2) tt T) in
     omega (arith, a, b, c, d)
 
 heat-most : (co p o T : ℕ) → p ≤ natAbs (pair .greatest) → co + p + o ≤ analysisMost → nearestℕ (analysedHeat co p o T) (10 ^ 7) ≤ analysedMost

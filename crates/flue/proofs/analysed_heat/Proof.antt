@@ -11,6 +11,7 @@ use Rattle.document.specs.Tests.{all}
 use Rattle.formulas.specs.Tables.{FlueGases, flueTable, noRow}
 use Rattle.formulas.specs.Formulas.{columnAt, analysedHeat}
 use Rattle.formulas.proofs.Capacity.{column-most}
+use Rattle.flue.specs.Steps.{entryMost}
 use Rattle.flue.proofs.Columns.{column-is}
 use Rattle.flue.proofs.analysed_heat.Statement.{statement}
 use Rattle.flue.proofs.analysed_heat.Tie as tie
@@ -29,24 +30,24 @@ n2 : (c : tie.After-column-at4) → c .column-at4 .result ≡ columnAt (λ g. g 
 n2 c = c .column-at4 .ensures ∙ column-is (λ g. g .n2) (c .before .before .before .before .args .t) refl
 
 -- a share of any of them
-term : (n t : ℕ) (gas : FlueGases → ℕ) {r : ℕ} → n ≤ 10000 → T (all (λ g. leb (gas g) 2215) (noRow ∷ flueTable))
-    → r ≡ columnAt gas t → n * r ≤ 10000 * (2215 * 1000)
-term n t gas h k e = rw e (mul-le-mul h (column-most gas 2215 k t))
+term : (n t : ℕ) (gas : FlueGases → ℕ) {r : ℕ} → n ≤ 10000 → T (all (λ g. leb (gas g) entryMost) (noRow ∷ flueTable))
+    → r ≡ columnAt gas t → n * r ≤ 10000 * (entryMost * 1000)
+term n t gas h k e = rw e (mul-le-mul h (column-most gas entryMost k t))
 
 shares : (c : tie.Start) → c .args .co + c .args .pair + c .args .oxygen ≤ analysisMost
 shares c = c .pre .0
 
-first : (c : tie.After-column-at) → c .before .args .co * c .column-at .result ≤ 10000 * (2215 * 1000)
+first : (c : tie.After-column-at) → c .before .args .co * c .column-at .result ≤ 10000 * (entryMost * 1000)
 first c =
     let few : c .before .args .co ≤ 10000 = omega (arith, shares (c .before)) in
     term (c .before .args .co) (c .before .args .t) (λ g. g .co) few tt (co c)
 
-second : (c : tie.After-column-at2) → c .before .before .args .pair * c .column-at2 .result ≤ 10000 * (2215 * 1000)
+second : (c : tie.After-column-at2) → c .before .before .args .pair * c .column-at2 .result ≤ 10000 * (entryMost * 1000)
 second c =
     let few : c .before .before .args .pair ≤ 10000 = omega (arith, shares (c .before .before)) in
     term (c .before .before .args .pair) (c .before .before .args .t) (λ g. g .co2) few tt (co2 c)
 
-third : (c : tie.After-column-at3) → c .before .before .before .args .oxygen * c .column-at3 .result ≤ 10000 * (2215 * 1000)
+third : (c : tie.After-column-at3) → c .before .before .before .args .oxygen * c .column-at3 .result ≤ 10000 * (entryMost * 1000)
 third c =
     let few : c .before .before .before .args .oxygen ≤ 10000 = omega (arith, shares (c .before .before .before)) in
     term (c .before .before .before .args .oxygen) (c .before .before .before .args .t) (λ g. g .o2) few tt (o2 c)
@@ -54,7 +55,7 @@ third c =
 abbrev rest : tie.Start → ℕ
 rest c = 10000 - (c .args .co + c .args .pair + c .args .oxygen)
 
-fourth : (c : tie.After-column-at4) → rest (c .before .before .before .before) * c .column-at4 .result ≤ 10000 * (2215 * 1000)
+fourth : (c : tie.After-column-at4) → rest (c .before .before .before .before) * c .column-at4 .result ≤ 10000 * (entryMost * 1000)
 fourth c =
     let s = c .before .before .before .before in
     let few : rest s ≤ 10000 = omega arith in
