@@ -1,5 +1,6 @@
 // Reads a logger's readings on standard input and prints their mean in tenths of a degree, or `refused=NUMBER,READING`. Where standard input
-// cannot be read to its end nothing is printed, and standard error says so, as it does where what was printed could not be written.
+// cannot be read to its end nothing is printed, and standard error says so, as it does where what was printed could not be written. With a word
+// behind its name it reads nothing, and says there how it is used.
 use libc::STDERR_FILENO;
 use libc::STDOUT_FILENO;
 use logger::BYTES_MOST;
@@ -8,6 +9,13 @@ use logger::BYTES_MOST;
 const ROOM: usize = BYTES_MOST + 1;
 
 fn main() {
+    if os::arg_count() > 1 {
+        io::write_all(
+            STDERR_FILENO,
+            b"usage: mean < READINGS\nreads a logger's readings on standard input and prints their mean or refusal; it takes no words and no file names\n",
+        );
+        return;
+    }
     let mut room = [0u8; ROOM];
     let readings = streams::read_all(&mut room);
     if readings.failed {
