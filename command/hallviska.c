@@ -41,7 +41,9 @@ static uint8_t report[HALLVISKA_REPORT_MOST];
 static enum status failed(const char *name, const char *why)
 {
     fflush(stdout);
-    fprintf(stderr, "hallviska: %s: %s\n", name, why);
+    fputs("hallviska: ", stderr);
+    put_word(name, stderr);
+    fprintf(stderr, ": %s\n", why);
     return FAILED;
 }
 
@@ -164,7 +166,9 @@ int main(int argc, char **argv)
         } else if (strcmp(argv[at], "--version") == 0) {
             return show_version();
         } else {
-            fprintf(stderr, "hallviska: no such option: %s\n%s", argv[at], usage);
+            fputs("hallviska: no such option: ", stderr);
+            put_word(argv[at], stderr);
+            fprintf(stderr, "\n%s", usage);
             return FAILED;
         }
     }

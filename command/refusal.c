@@ -22,12 +22,38 @@ static void end(void)
         fputs(plain, stdout);
 }
 
+/* How many bytes the letter at the front of this text has, in UTF-8 and of any alphabet; 0 for a control or a byte that begins no letter.
+ * Terminals take U+009B for the start of an escape as they take 033 [, so U+0080 to U+009F are controls too. */
+static size_t letter(const unsigned char *text)
+{
+    if (text[0] < 0x80)
+        return text[0] >= ' ' && text[0] != 127;
+    size_t length = text[0] < 0xc2 ? 0 : text[0] < 0xe0 ? 2 : text[0] < 0xf0 ? 3 : text[0] < 0xf5 ? 4 : 0;
+    for (size_t at = 1; at < length; at++) {
+        if (text[at] < 0x80 || text[at] > 0xbf)
+            return 0;
+    }
+    bool control = text[0] == 0xc2 && text[1] < 0xa0;
+    bool longer_than_due = (text[0] == 0xe0 && text[1] < 0xa0) || (text[0] == 0xf0 && text[1] < 0x90);
+    return control || longer_than_due ? 0 : length;
+}
+
+void put_word(const char *word, FILE *to)
+{
+    while (*word) {
+        size_t length = letter((const unsigned char *)word);
+        if (length != 0)
+            fwrite(word, 1, length, to);
+        else
+            putc('?', to);
+        word += length != 0 ? length : 1;
+    }
+}
+
 void show_name(const char *name)
 {
     begin(bold);
-    /* a name may have letters of any alphabet, but nothing that moves the cursor */
-    for (; *name; name++)
-        putchar((unsigned char)*name < ' ' || *name == 127 ? '?' : *name);
+    put_word(name, stdout);
     end();
     putchar('\n');
 }
