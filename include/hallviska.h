@@ -15,9 +15,11 @@ extern "C" {
 #endif
 
 /* Which header this is. The number grows by one with each change of a struct's layout, of what a function here means for some input, or of
- * the numbers of refusals; it stays where only words or the inside of the library change. A caller compares it with what the library says,
- * before any other call: where the two differ, the one was made for another layout than the other, and a field could be read wrongly. The
- * shared library bears it at the end of its name, so that the loader compares it too. */
+ * the numbers of a function's refusals. It stays where only words or the inside of the library change, and where a function is added with what
+ * is its own, as the readings' mean was: nobody who does not call it sees it, and with a library that has it not its caller does not link, or
+ * is ended by the loader. A caller compares the number with what the library says, before any other call: where the two differ, the one was
+ * made for another layout than the other, and a field could be read wrongly. The shared library bears it at the end of its name, so that the
+ * loader compares it too. */
 #define HALLVISKA_VERSION 1
 
 /* The HALLVISKA_VERSION of the header that the library answers by. */

@@ -17,11 +17,16 @@
 
 #include "hallviska.h"
 
-/* What callers of this version were compiled with. Whoever changes a struct gives the header its next number, and this the new layout. */
+/* What callers of this version were compiled with. Whoever changes a struct or a refusal gives the header its next number, and this the new
+ * layout; a function that is added brings its own. */
 _Static_assert(HALLVISKA_VERSION == 1 && sizeof(struct hallviska_answer) == 24 && offsetof(struct hallviska_answer, refusal) == 0
                    && offsetof(struct hallviska_answer, line) == 4 && offsetof(struct hallviska_answer, field) == 8
-                   && offsetof(struct hallviska_answer, length) == 16 && HALLVISKA_ANALYSIS == 14,
+                   && offsetof(struct hallviska_answer, length) == 16 && HALLVISKA_ACCEPTED == 0 && HALLVISKA_ANALYSIS == 14,
                "the layout or the refusals are another: HALLVISKA_VERSION has to grow");
+_Static_assert(HALLVISKA_VERSION == 1 && sizeof(struct hallviska_mean) == 12 && offsetof(struct hallviska_mean, refusal) == 0
+                   && offsetof(struct hallviska_mean, reading) == 4 && offsetof(struct hallviska_mean, mean) == 8
+                   && HALLVISKA_READINGS_TAKEN == 0 && HALLVISKA_READINGS_LENGTH == 18 && HALLVISKA_READING_OUTSIDE == 20,
+               "the layout or the refusals of the mean are another: HALLVISKA_VERSION has to grow");
 
 enum { SHEET_LENT = 5 * 4096, REPORT_LENT = 4096, ROOM_MOST = HALLVISKA_REPORT_MOST };
 
