@@ -2,10 +2,13 @@
 //
 // A vector that is empty may have null for its data, which the library must not be handed: hallviska_balance_nullable and
 // hallviska_mean_of_nullable see to it. It prints one line, or what is not as due, and ends with status 1.
+#include <algorithm>
 #include <cstdio>
 #include <cstring>
 #include <fstream>
 #include <iterator>
+#include <sstream>
+#include <string>
 #include <vector>
 
 #include "hallviska.h"
@@ -35,6 +38,14 @@ void due(const char *what, bool holds)
 hallviska_answer asked(const bytes &sheet, bytes &report)
 {
     return hallviska_balance_nullable(sheet.data(), sheet.size(), report.data(), report.size());
+}
+
+// Whether this line of a sheet has words, and these tell of as many numbers as stand there. Those of the gas are named one by one.
+bool told(const std::string &line, std::uint32_t edition)
+{
+    const std::string key = line.substr(0, line.find('=')), words = hallviska_sheet_words(key.c_str(), edition);
+    const auto parts = std::count(words.begin(), words.end(), key == "gas" ? ',' : ';');
+    return words != hallviska_sheet_words("", edition) && parts == std::count(line.begin(), line.end(), ',') + (key == "gas" ? 1 : 0);
 }
 
 bool is(const hallviska_mean &answer, std::uint32_t refusal, std::uint32_t reading, std::int32_t mean)
@@ -82,6 +93,24 @@ int main(int count, char **names)
         for (std::uint32_t other = 0; other < one; other++)
             due("the words of a line", std::strcmp(hallviska_line_words(one), hallviska_line_words(other)) != 0 &&
                                            std::strcmp(hallviska_line_key(one), hallviska_line_key(other)) != 0);
+    const std::uint32_t far = 0xffffffff;
+    due("what is not known", std::strcmp(hallviska_refusal_words(far), hallviska_refusal_words(HALLVISKA_ANALYSIS + 1)) == 0 &&
+                                 std::strcmp(hallviska_reading_words(far), hallviska_reading_words(1)) == 0 &&
+                                 std::strcmp(hallviska_line_words(far), hallviska_line_words(HALLVISKA_LINES)) == 0 &&
+                                 std::strcmp(hallviska_line_key(far), hallviska_line_key(HALLVISKA_LINES)) == 0 &&
+                                 std::strcmp(hallviska_line_unit(far), "?") == 0);
+    // the report's own lines have the header's keys, in its order, and a unit each
+    std::istringstream printed(std::string(report.begin(), report.end())), filled(std::string(sheet.begin(), sheet.end()));
+    std::string line;
+    for (std::uint32_t one = 0; one < HALLVISKA_LINES; one++) {
+        due("a line's key", std::getline(printed, line) && line.substr(0, line.find('=')) == hallviska_line_key(one));
+        due("a line's unit", std::string(hallviska_line_unit(one)) == (one == HALLVISKA_FIRING ? "" : one < HALLVISKA_EFF1 ? "kJ/t" : "0.01 %"));
+    }
+    due("no line more", !std::getline(printed, line));
+    while (std::getline(filled, line))
+        due("what a line of the sheet has", told(line, 1));
+    due("what a stage of sheet 2 has", told("stage=2000,1100,8200,0,2000,2000,600", 2));
+    due("a key that no sheet has", !told("kilowatts=1", 1) && !told("", 2));
     if (faults == 0)
         std::printf("vector: %d facts as due, as C++ of %ld\n", calls, static_cast<long>(__cplusplus));
     return faults == 0 ? 0 : 1;
