@@ -81,6 +81,10 @@ int main(int count, char **word)
         fprintf(stderr, "logger: %s cannot be read\n", word[1]);
         return FAILED;
     }
+    if (hallviska_version() != HALLVISKA_VERSION) {
+        fprintf(stderr, "logger: the library is of another version than the header\n");
+        return FAILED;
+    }
     struct hallviska_mean answer = hallviska_mean_of(bytes, length);
     if (answer.refusal == HALLVISKA_READINGS_TAKEN)
         show_mean(length / HALLVISKA_READING_BYTES, answer.mean);
