@@ -18,6 +18,11 @@ use Rattle.document.specs.Schema.{Row, Judged, refused, values, formedBy}
 use Rattle.document.specs.Reader.{judged}
 use Rattle.form.specs.declared.Formed.{Formed}
 use Rattle.form.specs.Formed.{zeros, handed, lineAt}
+use Rattle.form.specs.Fields.{accepted}
+use Rattle.form.proofs.Lines.{keyed-line}
+use Rattle.quick.specs.Key.{standing}
+use Rattle.quick.specs.Row.{RowRead}
+use Rattle.quick.proofs.Keys.{keyed}
 use Rattle.due.specs.declared.Place.{Place}
 use Rattle.due.specs.Place.{good, goingOn, Fair, Ready, Meets, After}
 use Rattle.due.specs.Taking.{plainNumbers, from}
@@ -94,6 +99,11 @@ module _ (s : List ℕ) (p : Place) (key : List ℕ) (n : ℕ) (r : Ready s p) (
   form-read l e z =
       let c = read-cases (formedBy key n text) refl (sym (ap (λ (y : Formed). y .number) e) ∙ z) in
       record { after = rw e (record { reads = λ x. c .0; passes = λ x. not-both (good p) yes x; fair = λ x. c .1 }); whole = line-values l e }
+
+  -- the key stands there, and behind it the quick reader has read the row
+  pub row-read : (v w : List ℤ) (next : ℕ) → standing s (p .at) key ≡ true → v ≡ zeros → RowRead s (p .at + length key) n v w next
+      → (next ≡ 0 → ⊥) → FormAfter s p key n (goingOn (p .line) next) w
+  row-read v w next k z a some = form-read (accepted next w) (a .read some ∙ rw z (sym (keyed-line _ _ _ _ (keyed s (p .at) key k)))) refl
 
 -- the numbers taken out of the array
 pub due-form : (s : List ℕ) (p : Place) (key : List ℕ) (n : ℕ) (q : Place) (v : List ℤ) (w : List Number) → n ≤ fieldsMost → plainNumbers w ≡ v

@@ -10,7 +10,6 @@ ghost use Prim.Native.Nat.{_+_, _≤_};
 ghost use lib.ListN.{length};
 ghost use Rattle.sheet.specs.Quantities.{fieldsMost, sheetMost};
 ghost use Rattle.form.specs.Formed.{zeros};
-ghost use Rattle.form.specs.Fields.{Keyed};
 ghost use Rattle.due.specs.Place.{good, goingOn, refusedAt, Ready, ranged as rangedPlace, ruled as ruledPlace};
 ghost use Rattle.due.specs.Form.{FormAfter, DueAfter};
 ghost use Rattle.due.specs.Taking.{plainNumbers};
@@ -44,7 +43,7 @@ pub fn refused(why: Refusal, line: usize) -> Place
 }
 
 // The place before the line after this one, which begins there.
-fn onward(line: usize, at: usize) -> Place
+pub fn onward(line: usize, at: usize) -> Place
     requires { ⌜ line ≤ sheetMost + 1 ⌝ }
     ensures { λ r. ⌜ r ≡ goingOn line at ⌝ }
 {
@@ -69,7 +68,7 @@ fn lay(numbers: [i64; FIELDS_MOST], v: &mut [i64; FIELDS_MOST])
 }
 
 // Reads a line that is not plainly in form, or names its fault and leaves zeros.
-fn careful(s: &[u8], p: Place, key: &[u8], n: usize, v: &mut [i64; FIELDS_MOST]) -> Place
+pub fn careful(s: &[u8], p: Place, key: &[u8], n: usize, v: &mut [i64; FIELDS_MOST]) -> Place
     requires { ⌜ n ≤ fieldsMost ⌝ }
     requires { ⌜ Ready (now s) p ⌝ }
     requires { ⌜ good p ≡ true ⌝ }
@@ -91,26 +90,17 @@ fn careful(s: &[u8], p: Place, key: &[u8], n: usize, v: &mut [i64; FIELDS_MOST])
     onward(line, l.next)
 }
 
-// Reads the form of the line that is due into an array of zeros, from the place behind its key, which is 0 where another key stands there; a
-// refused place passes through.
-// One function for every line, for the compiler: docs/DECISIONS.md, "A plain line is read in one pass, into an array that is lent".
-pub fn read_form(
-    s: &[u8],
-    p: Place,
-    key: &[u8],
-    behind: usize,
-    n: usize,
-    v: &mut [i64; FIELDS_MOST],
-) -> Place
+// Reads the form of the line that is due into an array of zeros, in one pass where it is plain; a refused place passes through.
+// For the compiler a part of its caller, and `gas_line` has its own: docs/DECISIONS.md, "A line's place stays out of memory".
+fn read_form(s: &[u8], p: Place, key: &[u8], n: usize, v: &mut [i64; FIELDS_MOST]) -> Place
     requires { ⌜ n ≤ fieldsMost ⌝ }
     requires { ⌜ Ready (now s) p ⌝ }
-    requires { ⌜ ((behind ≡ 0 → ⊥) → Keyed (now s) (p .at) (now key) × (behind ≡ p .at + length (now key))) ⌝ }
     requires { ⌜ now v ≡ zeros ⌝ }
     ensures { λ r. ⌜ FormAfter (now (s .entry)) p (now (key .entry)) n r (now (v .exit)) ⌝ }
 {
     if p.number == 0 {
-        if behind != 0 {
-            let next = quick::row(s, behind, n, v);
+        if quick::keyed(s, p.at, key) {
+            let next = quick::row(s, p.at + key.len(), n, v);
             if next != 0 {
                 return onward(p.line, next);
             }
@@ -140,11 +130,10 @@ pub fn due(s: &[u8], p: Place, key: &[u8], n: usize) -> LineDue
     ensures { λ r. ⌜ DueAfter (now (s .entry)) p (now (key .entry)) n r ⌝ }
 {
     let mut v = [0; FIELDS_MOST];
-    let behind = quick::behind(s, p.at, key);
-    let q = read_form(s, p, key, behind, n, &mut v);
+    let q = read_form(s, p, key, n, &mut v);
     let values = numbers(v);
     LineDue {
-        // Put together anew for the compiler: docs/DECISIONS.md, "A plain line is read in one pass, into an array that is lent".
+        // Put together anew for the compiler: docs/DECISIONS.md, "A line's place stays out of memory".
         place: Place {
             number: q.number,
             field: q.field,

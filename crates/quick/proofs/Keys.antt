@@ -1,7 +1,7 @@
 -- What decides whether a key stands at a place, and what a caller learns where it does. Assumes nothing.
 use Prim.Native.Nat.{ℕ, _+_, _≤_, _<_}
 use mathlib.Core.Path.{_≡_, refl}
-use mathlib.Core.Bool.{Bool, true, false, cond, _&&_}
+use mathlib.Core.Bool.{Bool, true, false, _&&_}
 use mathlib.Core.List.{List}
 use lib.ListN.{length, drop}
 use lib.Dec.{eqb, leb}
@@ -9,7 +9,7 @@ use borrow.Author.Tests.{le-leb, lt-leb, leb-true, eq-eqb, eqb-true, ne-eqb}
 use Rattle.text.specs.Scanning.{count, begins}
 use Rattle.document.proofs.Cases.{both}
 use Rattle.form.specs.Fields.{Keyed}
-use Rattle.quick.specs.Key.{standing, behindOf}
+use Rattle.quick.specs.Key.{standing}
 
 no-second : (a : Bool) → a && false ≡ false
 no-second true = refl
@@ -36,17 +36,8 @@ module _ (s : List ℕ) (at : ℕ) (key : List ℕ) where
   unfolding standing
   inside e = leb-true (at + length key) (length s) (both _ _ e .0)
 
-  keyed : standing s at key ≡ true → Keyed s at key
+  pub keyed : standing s at key ≡ true → Keyed s at key
   unfolding standing
   keyed e =
       let k = both (begins key (drop at s)) (eqb (count key 10) 0) (both (leb (at + length key) (length s)) _ e .1) in
       record { stands = k .0; clear = eqb-true (count key 10) 0 (k .1) }
-
-  -- where there is a place behind the key, the key stands before it
-  pub behind-keyed : (r : ℕ) → r ≡ behindOf s at key → (r ≡ 0 → ⊥) → Keyed s at key × (r ≡ at + length key)
-  unfolding behindOf
-  behind-keyed r e n = here (standing s at key) refl e
-    where
-      here : (t : Bool) → standing s at key ≡ t → r ≡ cond t (at + length key) 0 → Keyed s at key × (r ≡ at + length key)
-      here true q e = (keyed q, e)
-      here false q e = absurd (n e)

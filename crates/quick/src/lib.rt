@@ -1,11 +1,12 @@
-// A plain line of a sheet in one pass: its key (`behind`), and its numbers (`row`). Where anything is not plainly as it should be they say no and
+// A plain line of a sheet in one pass: its key (`keyed`), and its numbers (`row`). Where anything is not plainly as it should be they say no and
 // name no fault; the crate `form` then reads the line with care.
 mod signs;
 
 ghost use mathlib.Core.Path.{_≡_};
 ghost use Prim.Native.Nat.{_≤_, _<_};
+ghost use lib.ListN.{length};
 ghost use Rattle.sheet.specs.Quantities.{fieldsMost};
-ghost use Rattle.quick.specs.Key.{standing, behindOf};
+ghost use Rattle.quick.specs.Key.{standing};
 ghost use Rattle.quick.specs.Number.{Number};
 ghost use Rattle.quick.specs.Row.{RowRead};
 use crate::signs::rest;
@@ -19,10 +20,11 @@ struct Whole {
 }
 
 // Whether the key stands at a place within the text, with no LF in it.
-fn keyed(s: &[u8], at: usize, key: &[u8]) -> bool
+pub fn keyed(s: &[u8], at: usize, key: &[u8]) -> bool
+    requires { ⌜ at ≤ length (now s) ⌝ }
     ensures { λ r. ⌜ r ≡ standing (now (s .entry)) at (now (key .entry)) ⌝ }
 {
-    if s.len() < key.len() || s.len() - key.len() < at {
+    if s.len() - at < key.len() {
         return false;
     }
     let mut i = 0;
@@ -33,16 +35,6 @@ fn keyed(s: &[u8], at: usize, key: &[u8]) -> bool
         i += 1;
     }
     true
-}
-
-// The place behind the key that stands at a place; 0 where it does not stand there.
-pub fn behind(s: &[u8], at: usize, key: &[u8]) -> usize
-    ensures { λ r. ⌜ r ≡ behindOf (now (s .entry)) at (now (key .entry)) ⌝ }
-{
-    if keyed(s, at, key) {
-        return at + key.len();
-    }
-    0
 }
 
 // Reads n numbers with commas between them and an LF behind them into the first n of v, and answers the place after them, or 0.

@@ -8,7 +8,6 @@ use lib.Dec.{lit≤}
 use lib.IntN.{ℤ, pos, natAbs}
 use lib.ListN.{getD, replicate}
 use lib.Signed.{ltZ, leZ-yes}
-use Rattle.text.specs.Bytes.{bytes}
 use Rattle.arith.proofs.Machine.{range, arg, bound}
 use Rattle.limits.specs.declared.Number.{Number}
 use Rattle.limits.proofs.Laws.{within as between}
@@ -27,7 +26,6 @@ use Rattle.due.proofs.Ranges.{held-measured}
 use Rattle.fuel.specs.Fuel.{shares}
 use Rattle.due.proofs.Lines.{ruled-line}
 use Rattle.due.proofs.Formed.{due-form}
-use Rattle.quick.proofs.Keys.{behind-keyed}
 use Rattle.fuel.proofs.gas.gas_line.Statement.{statement}
 use Rattle.fuel.proofs.gas.gas_line.Tie as tie
 
@@ -43,12 +41,6 @@ unfolding heldTo
 all-small v i zero = tt
 all-small v i (suc n) = (share-small (getD v i (record { 0 = pos 0 }) .0), all-small v (suc i) n)
 
-read-form-requires : tie.Need-read-form-requires
-read-form-requires c κs =
-    let behind = c .before .before in
-    let a = behind .before .before .before in
-    (lit≤ tt, (a .pre, (behind-keyed (a .args .s .now) (a .args .p .at) (bytes "gas=") (behind .behind .result) (behind .behind .ensures), refl)))
-
 unburnable-requires : tie.Need-unburnable-requires
 unburnable-requires c κs =
     let t = c .before .before .gas-of in
@@ -60,7 +52,7 @@ returns c =
     let ranged = c .before .before .before in
     let t = ranged .before .gas-of in
     let n = ranged .before .before .numbers2 in
-    let f = ranged .before .before .before .read-form in
+    let f = ranged .before .before .before .gas-form in
     let whole : List ℤ → Bool = λ zs. not (same (sum (λ z. z) zs) (pos 10000) && ltZ (pos 0) (weigh airWeights zs)) in
     ruled-line gasLine (n .result) (λ zs. shares (t .result .gas) ≡ zs) (gas-rule []) (u .result) Shares
     (due-form _ _ _ gases (f .result) _ (n .result) (lit≤ tt) (n .ensures) (f .ensures)) (t .ensures) (ranged .ranged .ensures)
@@ -69,14 +61,5 @@ returns c =
 pub gas-line-spec : {M : Type 1} → statement M
 gas-line-spec =
     tie.close
-    (tie.spec
-    (λ c. search needs)
-    (λ c κs. search needs)
-    (λ c. search needs)
-    read-form-requires
-    (λ c κs. search needs)
-    (λ c κs. search needs)
-    (λ c κs. search needs)
-    unburnable-requires
-    (λ c κs. search needs)
+    (tie.spec (λ c κs. search needs) (λ c κs. search needs) (λ c κs. search needs) (λ c κs. search needs) unburnable-requires (λ c κs. search needs)
     returns)
