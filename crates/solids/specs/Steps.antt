@@ -13,11 +13,16 @@ use Rattle.sheet.specs.Shown.{setter, part}
 use Rattle.sheet.specs.Quantities.{product, ambient, mass, temperature}
 use Rattle.document.specs.Rules.{Every}
 use Rattle.document.specs.Lawful.{In, StuffIn, WareIn, WaterIn}
-use Rattle.formulas.specs.Tables.{rowOf, straightAt}
+use Rattle.formulas.specs.Tables.{tableA2, rowOf, straightAt}
 use Rattle.formulas.specs.Figures.{Within}
 use Rattle.formulas.specs.Sizes.{greatest}
 
 -- ---- specific heat
+-- table A.2 in two columns
+pub record TableA2 (a b : List ℤ) : Type 0 where
+  pub is-a : a ≡ map (λ l. l .a) tableA2
+  pub is-b : b ≡ map (λ l. l .b) tableA2
+
 -- a line of table A.2 with the coefficients of the one that holds
 pub record RowIs (m : ℕ) (T : ℤ) (i : ℕ) : Type 0 where
   pub small : i < 21

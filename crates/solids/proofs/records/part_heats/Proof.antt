@@ -17,6 +17,7 @@ use Rattle.formulas.specs.Formulas.{joule, sensible, q8, x10}
 use Rattle.formulas.specs.Sizes.{sensibleMost}
 use Rattle.formulas.proofs.Sizes.{sized}
 use Rattle.formulas.proofs.Sums.{each, more-fits, Both, begun, again, ended}
+use Rattle.solids.proofs.Straight.{table-a2}
 use Rattle.solids.proofs.Blank.{blankPart}
 use Rattle.solids.proofs.records.part_heats.Statement.{statement}
 use Rattle.solids.proofs.records.part_heats.Tie as tie
@@ -29,11 +30,11 @@ abbrev fired : ℤ → Part → ℤ
 fired t x = sensible paper (x .mass) (x .stuff) (x .firing) t
 
 abbrev Inv-loop : tie.InvT-loop
-Inv-loop t lines count q8₀ x10₀ i₀ q8 x10 i =
+Inv-loop t a b lines count q8₀ x10₀ i₀ q8 x10 i =
     (i ≤ count) × Both (unlit (t .0)) (fired (t .0)) part lines joule sensibleMost sensibleMost i (q8 .0) (x10 .0)
 
 abbrev μ-loop : tie.MeasureT-loop
-μ-loop t lines count q8₀ x10₀ i₀ q8 x10 i = count - i
+μ-loop t a b lines count q8₀ x10₀ i₀ q8 x10 i = count - i
 
 abbrev lines : tie.Start Inv-loop μ-loop → List Partˢ
 lines s = s .args .parts .lines
@@ -41,43 +42,50 @@ lines s = s .args .parts .lines
 long : (s : tie.Start Inv-loop μ-loop) → length (lines s) ≡ partsMost
 long s = search (needs, unmapped)
 
--- from the part of a turn: the loop, and the start
-abbrev L : tie.After-part Inv-loop μ-loop → tie.At-loop Inv-loop μ-loop
-L c = c .before .before
+-- from a turn's second heat: the first, the loop, and the start
+abbrev F : tie.After-b2 Inv-loop μ-loop → tie.After-b Inv-loop μ-loop
+F c = c .before .before .before .before
+
+abbrev L : tie.After-b Inv-loop μ-loop → tie.At-loop Inv-loop μ-loop
+L c = c .before .before .before .before
 
 abbrev S : tie.At-loop Inv-loop μ-loop → tie.Start Inv-loop μ-loop
 S c = c .before .before .before
 
+-- the part of this turn is there, and within its limits
+inside : (c : tie.After-b Inv-loop μ-loop) → L c .loop .i < length (lines (S (L c)))
+inside c = omega (arith, long (S (L c)))
+
+within : (c : tie.After-b Inv-loop μ-loop) → PartIn (part (getD (lines (S (L c))) (L c .loop .i) blankPart))
+within c =
+    let s = S (L c) in
+    each PartIn part (lines s) (s .args .parts .count .0) (L c .loop .i) blankPart (s .pre .each) (omega arith) (inside c)
+
 loop-again : tie.Need-loop-again Inv-loop μ-loop
 loop-again c =
     let second = c .before in
-    let plus = second .before in
+    let plus = second .before .before .before in
     let one = plus .before in
-    let l = L (one .before) in
-    let inside : l .loop .i < length (lines (S l)) = omega (arith, long (S l)) in
-    (omega arith, again blankPart inside (l .loop .inv .1) (one .sensible .ensures) (second .sensible2 .ensures) (plus .plus .ensures) (c .plus2 .ensures))
-
--- the part of this turn is within its limits
-within : (c : tie.After-part Inv-loop μ-loop) → PartIn (part (getD (lines (S (L c))) (L c .loop .i) blankPart))
-within c =
-    let s = S (L c) in
-    each PartIn part (lines s) (s .args .parts .count .0) (L c .loop .i) blankPart (s .pre .each) (omega arith) (omega (arith, long s))
+    let b = one .before in (
+      omega (arith, b .before .before .before .loop-test .taken),
+      again blankPart (inside b) (L b .loop .inv .1) (one .sensible .ensures) (second .sensible2 .ensures) (plus .plus .ensures) (c .plus2 .ensures),
+    )
 
 sensible-requires : tie.Need-sensible-requires Inv-loop μ-loop
 sensible-requires c κs =
     let h = within c in
-    record { mass = sized (h .mass) tt; stuff = h .stuff; at = sized (h .before) tt; from = S (L c) .pre .other }
+    (table-a2, record { mass = sized (h .mass) tt; stuff = h .stuff; at = sized (h .before) tt; from = S (L c) .pre .other })
 
 plus-requires : tie.Need-plus-requires Inv-loop μ-loop
 plus-requires c κs = more-fits (L (c .before) .loop .inv .1 .one) (c .sensible .ensures) partsMost (omega arith) tt
 
 sensible-requires-2 : tie.Need-sensible-requires-2 Inv-loop μ-loop
 sensible-requires-2 c κs =
-    let h = within (c .before .before) in
-    record { mass = sized (h .mass) tt; stuff = h .stuff; at = sized (h .firing) tt; from = S (L (c .before .before)) .pre .other }
+    let h = within (F c) in
+    (table-a2, record { mass = sized (h .mass) tt; stuff = h .stuff; at = sized (h .firing) tt; from = S (L (F c)) .pre .other })
 
 plus-requires-2 : tie.Need-plus-requires-2 Inv-loop μ-loop
-plus-requires-2 c κs = more-fits (L (c .before .before .before) .loop .inv .1 .two) (c .sensible2 .ensures) partsMost (omega arith) tt
+plus-requires-2 c κs = more-fits (L (F (c .before)) .loop .inv .1 .two) (c .sensible2 .ensures) partsMost (omega arith) tt
 
 returns : tie.Need-returns Inv-loop μ-loop
 unfolding q8 x10

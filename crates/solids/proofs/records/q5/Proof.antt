@@ -1,13 +1,15 @@
 -- `sensible` is the formula, and the ware is within its limits. Assumes nothing.
 use Rattle.formulas.specs.Formulas.{q5}
 use Rattle.formulas.proofs.Sizes.{sized}
+use Rattle.solids.proofs.Straight.{table-a2}
 use Rattle.solids.proofs.records.q5.Statement.{statement}
 use Rattle.solids.proofs.records.q5.Tie as tie
 
 sensible-requires : tie.Need-sensible-requires
 sensible-requires c κs =
-    let h = c .pre .ware in
-    record { mass = sized (h .green) tt; stuff = h .stuff; at = sized (h .entry) tt; from = c .pre .ambient }
+    let s = c .before .before in
+    let h = s .pre .ware in
+    (table-a2, record { mass = sized (h .green) tt; stuff = h .stuff; at = sized (h .entry) tt; from = s .pre .ambient })
 
 returns : tie.Need-returns
 unfolding q5
