@@ -81,10 +81,12 @@ fn row(material: Material, at: Degrees) -> usize
     ensures { λ r. ⌜ RowIs (material .0) (at .0) r ⌝ }
 {
     let code = material.0 as usize;
+    // Asked before the code, for the compiler: docs/DECISIONS.md, "Nothing is guessed of a material".
+    let low = at.0 <= 8000;
     match code {
         1 | 2 | 15 => 1,
-        3 => { if at.0 <= 8000 { 3 } else { 19 } }
-        12 => { if at.0 <= 8000 { 12 } else { 20 } }
+        3 => { if low { 3 } else { 19 } }
+        12 => { if low { 12 } else { 20 } }
         _ => code,
     }
 }

@@ -10,7 +10,7 @@ use lib.Dec.{T as So, eqb, ltb, ltb→lt, lit<}
 use lib.IntN.{ℤ, pos}
 use lib.Signed.{leZ}
 use mir.Syntax.{w32}
-use mir.Val.{SFits}
+use mir.Val.{SFits, toZ, ofZ}
 use mir.Facts.{toZ-ofZ}
 use Rattle.formulas.specs.Tables.{rowOf, straightAt}
 use Rattle.solids.specs.Steps.{RowIs}
@@ -41,47 +41,43 @@ at-most m h e = record { small = ltb→lt m 21 h; same = rw e }
 cast-code : tie.Need-cast-code
 cast-code c = search needs
 
+-- the start, from where the temperature is asked, and the answer by its number
+abbrev start : tie.After-struct-told → tie.Start
+start c = c .before .before .before
+
+asked : (c : tie.After-struct-told) {t : Bool} → leZ (toZ w32 (ofZ w32 (start c .args .at .0))) (pos 8000) ≡ t → leZ (start c .args .at .0) (pos 8000) ≡ t
+asked c e = let f : SFits w32 (start c .args .at .0) = search needs in rw (toZ-ofZ f) at e
+
 returns : tie.Need-returns
-returns c =
-    let code = c .before .before .before in
-    let f : SFits w32 (code .before .before .args .at .0) = search needs in
-    rw (code .match .keys2) (at-most 3 tt (rw (toZ-ofZ f) at (c .if1 .taken)))
+returns c = rw (c .before .match .keys2) (at-most 3 tt (asked (c .before .before) (c .if1 .taken)))
 
 returns-2 : tie.Need-returns-2
-returns-2 c =
-    let code = c .before .before .before in
-    let f : SFits w32 (code .before .before .args .at .0) = search needs in
-    rw (code .match .keys2) (record { small = lit< tt; same = rw (rw (toZ-ofZ f) at (c .if1 .left)) })
+returns-2 c = rw (c .before .match .keys2) (record { small = lit< tt; same = rw (asked (c .before .before) (c .if1 .left)) })
 
 returns-3 : tie.Need-returns-3
-returns-3 c =
-    let code = c .before .before .before in
-    let f : SFits w32 (code .before .before .args .at .0) = search needs in
-    rw (code .match .keys3) (at-most 12 tt (rw (toZ-ofZ f) at (c .if2 .taken)))
+returns-3 c = rw (c .before .match .keys3) (at-most 12 tt (asked (c .before .before) (c .if2 .taken)))
 
 returns-4 : tie.Need-returns-4
-returns-4 c =
-    let code = c .before .before .before in
-    let f : SFits w32 (code .before .before .args .at .0) = search needs in
-    rw (code .match .keys3) (record { small = lit< tt; same = rw (rw (toZ-ofZ f) at (c .if2 .left)) })
+returns-4 c = rw (c .before .match .keys3) (record { small = lit< tt; same = rw (asked (c .before .before) (c .if2 .left)) })
 
 returns-5 : tie.Need-returns-5
 returns-5 c =
-    let m = c .before .before .before .args .material .0 in
-    itself (c .before .before .before .args .at .0) (omega arith) (ne-eqb m 3 (λ e. omega arith)) (ne-eqb m 12 (λ e. omega arith))
+    let a = start (c .before .before) .args in
+    itself (a .at .0) (omega arith) (ne-eqb (a .material .0) 3 (λ e. omega arith)) (ne-eqb (a .material .0) 12 (λ e. omega arith))
 
 returns-6 : tie.Need-returns-6
 returns-6 c =
-    let s = c .before .before .before .before in
+    let a = start (c .before .before .before) .args in
     let r = c .before .before .match .rest in
-    itself (s .args .at .0) (omega arith) (ne-eqb (s .args .material .0) 3 (r .0 .1)) (ne-eqb (s .args .material .0) 12 (r .1))
+    itself (a .at .0) (omega arith) (ne-eqb (a .material .0) 3 (r .0 .1)) (ne-eqb (a .material .0) 12 (r .1))
 
 returns-7 : tie.Need-returns-7
-returns-7 c =
-    record { small = lit< tt; same = rw (c .match .keys1) (ap straightAt (sym (single 15 (c .before .before .args .at .0) refl refl))) }
+returns-7 c = record { small = lit< tt; same = rw (c .match .keys1) (ap straightAt (sym (single 15 (start (c .before) .args .at .0) refl refl))) }
 
 returns-8 : tie.Need-returns-8
-returns-8 c = clay (c .before .before .before .before .args .material .0) (c .before .before .before .before .args .at .0) (omega arith) (omega arith)
+returns-8 c =
+    let a = start (c .before .before .before) .args in
+    clay (a .material .0) (a .at .0) (omega arith) (omega arith)
 
 pub row-spec : {M : Type 1} → statement M
 row-spec = tie.close (tie.spec cast-code returns returns-2 returns-3 returns-4 returns-5 returns-6 returns-7 returns-8)
