@@ -48,28 +48,3 @@ root-mono {r = r} a b h = root-least r b (le-trans (a .below) h)
 
 pub root-only : {n r s : ℕ} → IsRoot n r → IsRoot n s → r ≡ s
 root-only {n} a b = le-antisymm (root-mono a b (le-refl n)) (root-mono b a (le-refl n))
-
--- ---- Newton's step
-means : (a b : ℕ) → 4 * (a * b) ≤ (a + b) * (a + b)
-means a b = go (decLe a b)
-  where
-    apart : (a b d : ℕ) → b ≡ a + d → 4 * (a * b) ≤ (a + b) * (a + b)
-    apart a b d e = rw e (omega arith)
-
-    go : Dec (a ≤ b) → 4 * (a * b) ≤ (a + b) * (a + b)
-    go (yes p) = apart a b (b - a) (omega arith)
-    go (no f) = omega (arith, apart b a (a - b) (omega arith))
-
--- the mean of x and n / x, cut down, is not below the root
-pub newton : (n x : ℕ) → 0 < x → n < ((x + n / x) / 2 + 1) * ((x + n / x) / 2 + 1)
-newton n x h =
-    let q = n / x in
-    let y = (x + q) / 2 + 1 in
-    let s : x + suc q ≤ 2 * y = omega arith in
-    omega (arith, means x (suc q), mul-le-mul s s, lt-div-mul-add {a = n} h)
-
--- the mean of 2 · r and n / (2 · r), by one division, is not below the root either
-pub from-twice : (n r : ℕ) → 0 < r → n < (n / (4 * r) + r + 1) * (n / (4 * r) + r + 1)
-from-twice n r h =
-    let d : 0 < 4 * r = omega arith in
-    omega (arith, means r (suc (n / (4 * r))), lt-div-mul-add {a = n} d)

@@ -1,6 +1,6 @@
 // Division that rounds to the nearest whole number, and the square root cut down to one.
 ghost use mathlib.Core.Path.{_≡_};
-ghost use Prim.Native.Nat.{_+_, _*_, _^_, _<_};
+ghost use Prim.Native.Nat.{_+_, _*_, _^_, _≤_, _<_};
 ghost use lib.IntN.{ℤ, pos, natAbs};
 ghost use lib.Signed.{_<ℤ_};
 ghost use mir.Syntax.{w64};
@@ -54,45 +54,43 @@ pub fn nearest(n: i64, d: i64) -> i64
     with_sign(n, nearest_size(magnitude(n), d as u64))
 }
 
-// A number from which the root of n is sought downward, and not below it.
-fn start(n: u64) -> u64
-    ensures { λ r. ⌜ (0 < r) × (r < 2 ^ 32) × (n < (r + 1) * (r + 1)) ⌝ }
-{
-    // So written for the compiler: docs/DECISIONS.md, "`floor_root` takes every u64".
-    if n < 1_099_511_627_776 {
-        return 1_048_575;
-    }
-    if n < 17_592_186_044_416 {
-        return n / 4_194_304 + 1_048_576;
-    }
-    if n < 281_474_976_710_656 {
-        return n / 16_777_216 + 4_194_304;
-    }
-    if n < 4_503_599_627_370_496 {
-        return n / 67_108_864 + 16_777_216;
-    }
-    if n < 72_057_594_037_927_936 {
-        return n / 268_435_456 + 67_108_864;
-    }
-    if n < 1_152_921_504_606_846_976 {
-        return n / 1_073_741_824 + 268_435_456;
-    }
-    if n < 9_223_372_036_854_775_808 {
-        return n / 4_294_967_296 + 1_073_741_824;
-    }
-    4_294_967_295
+// A square root that is being worked: the root of the pairs of bits that are brought down, and what is left of them.
+struct Work {
+    root: u64,
+    rest: u64,
 }
 
-// The greatest r whose square is not above n, by Newton's steps from above: the mean of x and n / x is never below the root.
+// A step on paper (docs/ROOT.md): bring the next pair down to the rest, try the digit 1, and take it away where it goes.
+fn step(work: Work, pair: u64) -> Work
+    requires { ⌜ (pair < 4) × (work .root < 2 ^ 32) × (work .rest ≤ 2 * work .root) ⌝ }
+    ensures { λ r. ⌜ (r .root * r .root + r .rest ≡ 4 * (work .root * work .root + work .rest) + pair) × (r .rest ≤ 2 * r .root) ⌝ }
+{
+    let rest = work.rest * 4 + pair;
+    let trial = work.root * 4 + 1;
+    if trial <= rest {
+        // the digit is 1
+        Work {
+            root: work.root * 2 + 1,
+            rest: rest - trial,
+        }
+    } else {
+        // the digit is 0
+        Work {
+            root: work.root * 2,
+            rest: rest,
+        }
+    }
+}
+
+// The greatest r whose square is not above n, as on paper: from the highest pair of bits that is not 0 down to the last.
 pub fn floor_root(n: u64) -> u64
     ensures { λ r. ⌜ r ≡ root n ⌝ }
 {
-    if n == 0 {
-        return 0;
+    let mut work = Work { root: 0, rest: 0 };
+    let mut pairs = (65 - u64::leading_zeros(n)) / 2;
+    while 0 < pairs {
+        pairs -= 1;
+        work = step(work, (n >> (2 * pairs)) % 4);
     }
-    let mut x = start(n);
-    while n < x * x {
-        x = (x + n / x) / 2;
-    }
-    x
+    work.root
 }
