@@ -67,16 +67,18 @@ fn step(work: Work, pair: u64) -> Work
 {
     let rest = work.rest * 4 + pair;
     let trial = work.root * 4 + 1;
+    // Doubled before it is asked, for the compiler: docs/DECISIONS.md, "`floor_root` takes every u64".
+    let twice = work.root * 2;
     if trial <= rest {
         // the digit is 1
         Work {
-            root: work.root * 2 + 1,
+            root: twice + 1,
             rest: rest - trial,
         }
     } else {
         // the digit is 0
         Work {
-            root: work.root * 2,
+            root: twice,
             rest: rest,
         }
     }
