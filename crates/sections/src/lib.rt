@@ -110,6 +110,7 @@ pub fn numbers_of(sections: [Section; SectionCount::GREATEST]) -> [usize; Sectio
 }
 
 // How many of the first `count` numbers stand before this one, or `count` where it is not among them.
+// So written for the compiler: docs/DECISIONS.md, "A section is looked up with no way out of the loop".
 pub fn section_place(
     numbers: &[usize; SectionCount::GREATEST],
     count: usize,
@@ -118,14 +119,15 @@ pub fn section_place(
     requires { ⌜ (count ≤ sectionsMost) × (count ≤ length (now numbers)) ⌝ }
     ensures { λ r. ⌜ r ≡ placeOf (number .0) (take count (now (numbers .entry))) ⌝ }
 {
-    let mut i = 0;
-    while i < count {
+    let mut place = count;
+    let mut i = count;
+    while 0 < i {
+        i -= 1;
         if numbers[i] == number.0 {
-            return i;
+            place = i;
         }
-        i += 1;
     }
-    i
+    place
 }
 
 // One line `section`, whose number must not stand among the first i.
