@@ -16,6 +16,7 @@ use Rattle.sheet.specs.Shown.{section, same, before}
 use Rattle.document.specs.Tests.{isListed}
 use Rattle.document.proofs.Rules.{same-self, same-is}
 use Rattle.sections.specs.Sections.{numbers, placeOf, Distinct}
+use Rattle.sections.proofs.Mapped.{set-map}
 use Rattle.sections.proofs.Same.{same-false, same-swap, neither}
 
 pub before-most : (z : ℤ) (S : List Section) → before z S ≤ length S
@@ -101,11 +102,6 @@ take-numbers zero l = refl
 take-numbers (suc k) [] = refl
 take-numbers (suc k) (x ∷ l) = ap (λ ns. x .number .0 ∷ ns) (take-numbers k l)
 
-set-numbers : (l : List Sectionˢ) (i : ℕ) (x : Sectionˢ) → set (numbers l) i (x .number .0) ≡ numbers (set l i x)
-set-numbers [] i x = refl
-set-numbers (y ∷ l) zero x = refl
-set-numbers (y ∷ l) (suc i) x = ap (λ ns. y .number .0 ∷ ns) (set-numbers l i x)
-
 module _ {ns : List ℕ} (l : List Sectionˢ) (e : ns ≡ numbers l) where
   pub numbers-length : length ns ≡ length l
   numbers-length = ap length e ∙ length-map l (λ x. x .number .0)
@@ -116,7 +112,7 @@ module _ {ns : List ℕ} (l : List Sectionˢ) (e : ns ≡ numbers l) where
 
   -- A section that is stored has its number stored.
   pub numbers-set : (i : ℕ) (x : Sectionˢ) → set ns i (x .number .0) ≡ numbers (set l i x)
-  numbers-set i x = ap (λ m. set m i (x .number .0)) e ∙ set-numbers l i x
+  numbers-set i x = ap (λ m. set m i (x .number .0)) e ∙ set-map (λ y. y .number .0) l i x
 
 -- as many sections are shown as are taken
 pub shown-length : (k : ℕ) (l : List Sectionˢ) → k ≤ length l → length (map section (take k l)) ≡ k

@@ -5,13 +5,14 @@ use mathlib.Core.Bool.{Bool, true, false, _&&_}
 use mathlib.Core.List.{List, [], _∷_, _++_, map, map-append}
 use mathlib.Core.Option.{Option}
 use native.Mathlib.Numerals.{add-one}
-use lib.ListN.{length, length-map}
+use lib.ListN.{length, getD, set, length-map, List·getD-map}
 use lib.Signed.{ltZ}
+use Rattle.sheet.specs.declared.Reading.{Reading}
 use Rattle.sheet.specs.declared.SectionReadings.{SectionReadings}
 use Rattle.sheet.specs.declared.Refusal.{Refusal}
 use Rattle.sheet.specs.declared.Refusal.the-variants.{ReadTwice, Colder}
 use Rattle.sheet.specs.Firing.{Section, Wall}
-use Rattle.sheet.specs.Shown.{before, column, reading, lay, laid, unreadSections}
+use Rattle.sheet.specs.Shown.{before, column, reading, cell, lay, laid, unread, noReadings, unreadSections, wasRead}
 use Rattle.sheet.specs.Quantities.{sectionsMost}
 use Rattle.text.specs.Bytes.{bytes}
 use Rattle.document.specs.Schema.{Row}
@@ -26,8 +27,9 @@ use Rattle.due.proofs.Above.{rows-here, rows-other}
 use Rattle.due.proofs.Lines.{Kept, ruled-after, rule-as, not-good, good-test}
 use Rattle.due.proofs.Places.{after-weaker, after-refused}
 use Rattle.due.proofs.Sequence.{block-more}
+use Rattle.sections.proofs.Mapped.{set-map}
 use Rattle.walls.specs.declared.rows.NamedWall.{NamedWall}
-use Rattle.walls.specs.Cells.{Placed, readAt}
+use Rattle.walls.specs.Cells.{Placed, readAt, bySection}
 use Rattle.walls.specs.Walls.{wall, six, Named, WallsShown}
 use Rattle.walls.proofs.Readings.{laid-read, laid-more, placed-more}
 use Rattle.walls.proofs.Rulings.{seven, nine, inOrder, fault-is}
@@ -41,8 +43,27 @@ abbrev seenIn : NamedWall → List SectionReadings → Bool
 seenIn r cells = readAt cells (r .row) (column (wall (r .wall)))
 
 -- the place after rules 7 and 9, by what lies in the line's cell
+abbrev settledBy : ℕ → NamedWall → Reading → Place
+settledBy n r there = ruled n (ruled n (r .place) (wasRead there) ReadTwice) (ltZ (r .wall .surface .0) (r .wall .air .0)) Colder
+
 abbrev pub settled : ℕ → NamedWall → List SectionReadings → Place
-settled n r cells = ruled n (ruled n (r .place) (seenIn r cells) ReadTwice) (ltZ (r .wall .surface .0) (r .wall .air .0)) Colder
+settled n r cells = settledBy n r (cell cells (r .row) (column (wall (r .wall))))
+
+-- CELLS IN ROWS: the code lays the readings into rows of cells, which become the sections' readings at the end.
+module _ (rows : List (List Reading)) where
+  row-at : (i : ℕ) → getD (bySection rows) i noReadings ≡ record { stages = getD rows i [] }
+  row-at i = List·getD-map (λ row. record { stages = row }) rows i []
+
+  -- A reading laid into a row's cell is laid into its section's.
+  pub lay-row : (i j : ℕ) (x : Reading) → bySection (set rows i (set (getD rows i []) j x)) ≡ lay (bySection rows) i j x
+  lay-row i j x =
+      sym (set-map (λ row. record { stages = row }) rows i (set (getD rows i []) j x))
+      ∙ ap (λ (row : SectionReadings). set (bySection rows) i (record { stages = set (row .stages) j x })) (sym (row-at i))
+
+  -- The place by what lies in the row's cell.
+  pub settled-row : (n : ℕ) (r : NamedWall) (q : Place) → q ≡ settledBy n r (getD (getD rows (r .row) []) (column (wall (r .wall))) unread)
+      → q ≡ settled n r (bySection rows)
+  settled-row n r q e = e ∙ ap (λ (row : SectionReadings). settledBy n r (getD (row .stages) (column (wall (r .wall))) unread)) (sym (row-at (r .row)))
 
 settled-passes : (n : ℕ) (r : NamedWall) (cells : List SectionReadings) → good (r .place) ≡ false → settled n r cells ≡ r .place
 settled-passes n r cells h =

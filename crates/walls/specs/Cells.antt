@@ -1,8 +1,9 @@
 -- The cells of the readings, by section and stage: which of them are read, and whether all are.
 use Prim.Native.Nat.{ℕ, _<_, zero, suc}
 use mathlib.Core.Bool.{Bool, true, _&&_}
-use mathlib.Core.List.{List}
+use mathlib.Core.List.{List, map}
 use lib.ListN.{length, getD}
+use Rattle.sheet.specs.declared.Reading.{Reading}
 use Rattle.sheet.specs.declared.SectionReadings.{SectionReadings}
 use Rattle.sheet.specs.Firing.{Section, Wall}
 use Rattle.sheet.specs.Shown.{before, unread, noReadings, wasRead, cell}
@@ -30,3 +31,7 @@ rowRead row stages = every (λ j. wasRead (getD (row .stages) j unread)) stages
 -- 8: each of the first sections was read in each of the first stages
 unfoldable pub allRead : List SectionReadings → ℕ → ℕ → Bool
 allRead cells sections stages = every (λ i. rowRead (getD cells i noReadings) stages) sections
+
+-- the readings of each section, from its row of cells
+abbrev pub bySection : List (List Reading) → List SectionReadings
+bySection cells = map (λ row. record { stages = row }) cells

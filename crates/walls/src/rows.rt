@@ -9,6 +9,7 @@ ghost use Rattle.sheet.specs.declared.Refusal.the-variants.{ReadTwice, Colder};
 ghost use Rattle.sheet.specs.Shown.{wasRead, section};
 ghost use Rattle.sheet.specs.Quantities.{sectionsMost};
 ghost use Rattle.due.specs.Place.{Ready, ruled as ruledPlace};
+ghost use Rattle.walls.specs.Cells.{bySection};
 ghost use Rattle.walls.specs.Walls.{nowhere, NamedAfter, WallsAfter};
 ghost use Rattle.walls.specs.Surfaces.{WallsRead};
 use crate::line::Wall;
@@ -19,6 +20,7 @@ use crate::line::wall_line;
 use due::Place;
 use due::ruled;
 use quantity::sheet::SectionCount;
+use quantity::sheet::StageCount;
 use sections::section_place;
 use sheet::Reading;
 use sheet::Refusal;
@@ -84,12 +86,30 @@ fn read_once(line: usize, q: Place, there: Reading, w: Wall) -> Place
     ruled(line, first, cold, Refusal::Colder)
 }
 
+// The readings of each section, from its row of cells.
+fn by_section(
+    cells: [[Reading; StageCount::GREATEST]; SectionCount::GREATEST],
+) -> [SectionReadings; SectionCount::GREATEST]
+    ensures { λ r. ⌜ r ≡ bySection cells ⌝ }
+{
+    let none = sheet::blank::section_readings();
+    let mut readings = [none; SectionCount::GREATEST];
+    let mut i = 0;
+    while i < SectionCount::GREATEST {
+        let stages = cells[i];
+        readings[i] = SectionReadings { stages };
+        i += 1;
+    }
+    readings
+}
+
 pub struct WallRows {
     pub place: Place,
     pub readings: [SectionReadings; SectionCount::GREATEST],
 }
 
 // n lines `wall`, laid into the cells of their section and stage.
+// So written for the compiler: docs/DECISIONS.md, "A reading is laid into its cell in place".
 fn wall_rows(
     s: &[u8],
     start: Place,
@@ -102,9 +122,10 @@ fn wall_rows(
     requires { ⌜ Ready (now s) start ⌝ }
     ensures { λ r. ⌜ WallsAfter (now (s .entry)) start n (map section (take count sections)) stages (r .place) (r .readings) ⌝ }
 {
-    let none = sheet::blank::section_readings();
+    let none = sheet::blank::reading();
     let numbers = sections::numbers_of(sections);
-    let mut readings = [none; SectionCount::GREATEST];
+    let blank = [none; StageCount::GREATEST];
+    let mut cells = [blank; SectionCount::GREATEST];
     let mut p = start;
     let mut i = 0;
     while i < n {
@@ -113,17 +134,16 @@ fn wall_rows(
         let row = l.row;
         let stage = w.stage;
         let column = stage.0 - 1;
-        let mut cells = readings[row];
-        let there = cells.stages[column];
+        let there = cells[row][column];
         let q = l.place;
         p = read_once(p.line, q, there, w);
         if p.number == 0 {
             let x = reading_of(w);
-            cells.stages[column] = x;
-            readings[row] = cells;
+            cells[row][column] = x;
         }
         i += 1;
     }
+    let readings = by_section(cells);
     WallRows { place: p, readings }
 }
 
