@@ -63,17 +63,9 @@ module _ (s : List ℕ) (c i : ℕ) (h : i < length s) (m : ℕ) where
   unfolding digitsRead upTo
   digit-end e = rw (drop-cons s i 0, eq-eqb (getD s i 0) c e)
 
--- a number below 10⁹ has no tenth digit
-pub few : (e m : ℕ) → 10 ^ e ≤ m → m < 1000000000 → e ≤ 8
-few e m h l = go (decLe e 8)
-  where
-    go : Dec (e ≤ 8) → e ≤ 8
-    go (yes p) = p
-    go (no f) =
-        let g : 9 ≤ e = omega arith in
-        let p : 10 ^ 9 ≤ 10 ^ e = pow-le-pow-right {n = 10} (lit< tt) g in
-        let z : ⊥ = omega arith in
-        absurd z
+-- nine digits are a number below 10⁹
+pub few : (e m : ℕ) → m < 10 ^ e → e ≤ 9 → m < 1000000000
+few e m h l = let p : 10 ^ e ≤ 10 ^ 9 = pow-le-pow-right {n = 10} (lit< tt) l in omega arith
 
 -- THE LAW: the digits that the loop has seen are a number
 pub digits-seen : (s : List ℕ) (at c k m : ℕ) → at < k → k < length s → getD s k 0 ≡ c → k ≤ at + 9 → (at + 1 < k → getD s at 0 ≡ 48 → ⊥)

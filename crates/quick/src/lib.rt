@@ -74,9 +74,11 @@ fn number(s: &[u8], at: usize, c: u8) -> Whole
     if first < b'0' || b'9' < first {
         return Whole { value: 0, next: 0 };
     }
+    // Nine digits and the byte that closes them end here. Below 10 would say the same: docs/DECISIONS.md, "A number's digits are bounded by a place".
+    let end = if s.len() - at < 11 { s.len() } else { at + 10 };
     let mut m = (first - b'0') as u64;
     let mut k = at + 1;
-    while k < s.len() {
+    while k < end {
         let b = s[k];
         let d = wrapping_sub_u8(b, b'0');
         if 9 < d {
@@ -90,9 +92,6 @@ fn number(s: &[u8], at: usize, c: u8) -> Whole
                 value: m as i64,
                 next: k + 1,
             };
-        }
-        if 99_999_999 < m {
-            return Whole { value: 0, next: 0 };
         }
         m = m * 10 + d as u64;
         k += 1;
