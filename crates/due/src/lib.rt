@@ -75,7 +75,10 @@ pub fn careful(s: &[u8], p: Place, key: &[u8], n: usize, v: &mut [i64; FIELDS_MO
     requires { ⌜ length (now v) ≡ fieldsMost ⌝ }
     ensures { λ r. ⌜ FormAfter (now (s .entry)) p (now (key .entry)) n r (now (v .exit)) ⌝ }
 {
-    let l = form::judged(s, p.at, key, n);
+    // The same text and key once more, for the compiler: docs/DECISIONS.md, "A text that is handed on is taken anew".
+    let text = &s[..];
+    let given = &key[..];
+    let l = form::judged(text, p.at, given, n);
     let values = l.values;
     lay(values, v);
     let line = p.line;

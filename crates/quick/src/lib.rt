@@ -43,13 +43,15 @@ pub fn row(s: &[u8], start: usize, n: usize, v: &mut [i64; FIELDS_MOST]) -> usiz
     requires { ⌜ n ≤ fieldsMost ⌝ }
     ensures { λ r. ⌜ RowRead (now (s .entry)) start n (now (v .entry)) (now (v .exit)) r ⌝ }
 {
+    // The same text once more, for the compiler: docs/DECISIONS.md, "A text that is handed on is taken anew".
+    let text = &s[..];
     let mut at = start;
     let mut i = 0;
     while i < n {
         let c = if i + 1 == n { b'\n' } else { b',' };
-        let q = number(s, at, c);
+        let q = number(text, at, c);
         if q.next == 0 {
-            return rest(s, at, n, i, v);
+            return rest(text, at, n, i, v);
         }
         let z = q.value;
         v[i] = z;

@@ -13,10 +13,10 @@ use Rattle.quick.proofs.row.Statement.{statement}
 use Rattle.quick.proofs.row.Tie as tie
 
 abbrev Inv-loop : tie.InvT-loop
-Inv-loop s start n v₀ at₀ i₀ v at i = Due s start n 0 v₀ at i v
+Inv-loop s start n v₀ text at₀ i₀ v at i = Due s start n 0 v₀ at i v
 
 abbrev μ-loop : tie.MeasureT-loop
-μ-loop s start n v₀ at₀ i₀ v at i = n - i
+μ-loop s start n v₀ text at₀ i₀ v at i = n - i
 
 -- where the number was read, from where it is kept: it is the one that is kept
 abbrev read : tie.After-struct-told Inv-loop μ-loop → tie.After-number Inv-loop μ-loop
