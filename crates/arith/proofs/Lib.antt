@@ -7,5 +7,7 @@ pub mod Machine
 pub mod NearestLaws
 pub mod Ties
 pub mod RootLaws
+pub mod Pairs
+pub mod Sides
 pub mod Examples
 pub mod Signed
