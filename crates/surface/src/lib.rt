@@ -1,17 +1,21 @@
 // The heat that leaves through the surface, reading by reading.
 ghost use mathlib.Core.Path.{_≡_};
-ghost use Prim.Native.Nat.{_*_, _^_, _≤_};
+ghost use Prim.Native.Nat.{ℕ, _*_, _^_, _≤_, _<_};
 ghost use lib.IntN.{ℤ, pos, natAbs, _+ℤ_, _-ℤ_, _*ℤ_};
+ghost use lib.ListN.{getD};
 ghost use mir.Syntax.{w64};
 ghost use mir.Val.{SFits};
+ghost use Rattle.arith.specs.Root.{side};
 ghost use Rattle.sheet.specs.Firing.{Wall, Firing};
-ghost use Rattle.sheet.specs.Shown.{stage as stageOf, section as sectionOf};
+ghost use Rattle.sheet.specs.Quantities.{sectionsMost, stagesMost, wallsMost};
+ghost use Rattle.sheet.specs.Shown.{stage as stageOf, section as sectionOf, cell};
 ghost use Rattle.formulas.specs.Rounding.{paper, fourthRoot, convected};
 ghost use Rattle.formulas.specs.Formulas.{joule, placed, fourth, radiation, flux, wallHeat, x9};
 ghost use Rattle.formulas.specs.Figures.{Exact, Figure};
-ghost use Rattle.formulas.specs.Sizes.{placedMost, warmerMost, convectionMost, radiationMost, fluxMost, wallHeatMost, x9Most};
+ghost use Rattle.formulas.specs.Sizes.{cellsMost, placedMost, warmerMost, convectionMost, radiationMost, fluxMost, wallHeatMost, x9Most};
 ghost use Rattle.formulas.specs.Steps.{over};
-ghost use Rattle.surface.specs.Cells.{FourthFits, DifferenceFits, LostFits, RiseIn, HotIn, WallIn, LostIn, Seen};
+ghost use Rattle.surface.specs.Cells.{FourthFits, DifferenceFits, LostFits, RiseIn, HotIn, ReadingIn, WallIn, LostIn, Rooted, EachRooted, AllRooted, Seen};
+use arith::SIDE;
 use formulas::rounding::Quotient;
 use quantity::heat::Joules;
 use quantity::kiln::Area;
@@ -19,6 +23,7 @@ use quantity::kiln::Minutes;
 use quantity::kiln::SectionPlace;
 use quantity::sheet::SectionCount;
 use quantity::sheet::StageCount;
+use quantity::sheet::WallCount;
 use quantity::temperature::Degrees;
 use quantity::temperature::Rise;
 use sheet::Reading;
@@ -46,22 +51,69 @@ fn fourth_root(rise: u64) -> u64
     arith::floor_root(arith::floor_root(rise * 1_000_000_000_000_000) * 100_000_000)
 }
 
+// A rise and its fourth root, noted down when it was found beside others.
+struct Noted {
+    rise: u64,
+    root: u64,
+}
+
+// The fourth root of a rise: the one that is noted, or else by itself.
+fn known(rise: u64, noted: Noted) -> u64
+    requires { ⌜ (rise ≤ warmerMost) × Rooted (noted .rise) (noted .root) ⌝ }
+    ensures { λ r. ⌜ r ≡ fourthRoot rise ⌝ }
+{
+    if noted.rise == rise {
+        noted.root
+    } else {
+        fourth_root(rise)
+    }
+}
+
+// A product, or 0 where the first factor is above the greatest and the product might not fit.
+fn times(x: u64, by: u64, most: u64) -> u64
+    requires { ⌜ most * by < 2 ^ 64 ⌝ }
+    ensures { λ r. ⌜ (x ≤ most → r ≡ x * by) ⌝ }
+{
+    if x <= most { x * by } else { 0 }
+}
+
+fn each_times(x: [u64; SIDE], by: u64, most: u64) -> [u64; SIDE]
+    requires { ⌜ most * by < 2 ^ 64 ⌝ }
+    ensures { λ r. ⌜ ((k : ℕ) → k < side → getD x k 0 ≤ most → getD r k 0 ≡ getD x k 0 * by) ⌝ }
+{
+    let mut r = [0; SIDE];
+    let mut i = 0;
+    while i < SIDE {
+        r[i] = times(x[i], by, most);
+        i += 1;
+    }
+    r
+}
+
+// The fourth roots of several rises, side by side.
+fn fourth_roots(rises: [u64; SIDE]) -> [u64; SIDE]
+    ensures { λ r. ⌜ EachRooted rises r ⌝ }
+{
+    let first = arith::floor_roots(each_times(rises, 1_000_000_000_000_000, 10_000));
+    arith::floor_roots(each_times(first, 100_000_000, 100_000_000_000))
+}
+
 // The first term of formula 25, A Δ ⁴√Δ, before it is rounded.
-fn first_term(a: u64, rise: u64) -> Quotient
-    requires { ⌜ (a ≤ placedMost) × (rise ≤ warmerMost) ⌝ }
+fn first_term(a: u64, rise: u64, noted: Noted) -> Quotient
+    requires { ⌜ (a ≤ placedMost) × (rise ≤ warmerMost) × Rooted (noted .rise) (noted .root) ⌝ }
     ensures { λ r. ⌜ r ≡ over (pos (a * rise * fourthRoot rise)) (10 ^ 6) ⌝ }
 {
-    Quotient((a * rise * fourth_root(rise)) as i64, 1_000_000)
+    Quotient((a * rise * known(rise, noted)) as i64, 1_000_000)
 }
 
 // The first term of formula 25.
-fn convection(place: SectionPlace, rise: Rise) -> Flux
-    requires { ⌜ RiseIn (place .0) (rise .0) ⌝ }
+fn convection(place: SectionPlace, rise: Rise, noted: Noted) -> Flux
+    requires { ⌜ RiseIn (place .0) (rise .0) × Rooted (noted .rise) (noted .root) ⌝ }
     ensures { λ r. ⌜ Exact convectionMost (r .0) (pos (convected (placed (place .0)) (natAbs (rise .0)))) ⌝ }
 {
     let at = place.0;
     let size = rise.0 as u64;
-    Flux(first_term(FACTOR[at], size).units().0)
+    Flux(first_term(FACTOR[at], size, noted).units().0)
 }
 
 // The fourth power of a temperature above the absolute zero.
@@ -98,12 +150,12 @@ fn both(first: Flux, second: Flux) -> Flux
 }
 
 // Formula 25, as a product.
-fn flux_at(reading: Reading, section: Section) -> Flux
-    requires { ⌜ WallIn reading (sectionOf section) ⌝ }
+fn flux_at(reading: Reading, section: Section, noted: Noted) -> Flux
+    requires { ⌜ WallIn reading (sectionOf section) × Rooted (noted .rise) (noted .root) ⌝ }
     ensures { λ r. ⌜ ((w : Wall) → w .surface ≡ reading .surface .0 → w .air ≡ reading .air .0 →
         Figure (10 ^ 9) fluxMost (r .0) (flux paper (sectionOf section) w)) ⌝ }
 {
-    let first = convection(section.place, reading.surface.above(reading.air));
+    let first = convection(section.place, reading.surface.above(reading.air), noted);
     let second = radiation(reading.surface.degrees(), reading.air.degrees());
     both(first, second)
 }
@@ -117,12 +169,73 @@ fn lost(flux: Flux, area: Area, minutes: Minutes) -> Quotient
 }
 
 // The heat that leaves through a section in a stage.
-fn wall_heat(reading: Reading, section: Section, stage: Stage) -> Joules
-    requires { ⌜ LostIn reading (sectionOf section) (stageOf stage) ⌝ }
+fn wall_heat(reading: Reading, section: Section, stage: Stage, noted: Noted) -> Joules
+    requires { ⌜ LostIn reading (sectionOf section) (stageOf stage) × Rooted (noted .rise) (noted .root) ⌝ }
     ensures { λ r. ⌜ ((w : Wall) → w .surface ≡ reading .surface .0 → w .air ≡ reading .air .0 →
         Figure joule wallHeatMost (r .0) (wallHeat paper (sectionOf section) (stageOf stage) w)) ⌝ }
 {
-    lost(flux_at(reading, section), section.area, stage.minutes).joules()
+    lost(
+        flux_at(reading, section, noted),
+        section.area,
+        stage.minutes,
+    ).joules()
+}
+
+// As many groups as hold every reading of a sheet.
+const GROUPS: usize = WallCount::GREATEST / SIDE;
+
+// The how manieth a reading is in the order of `x9`.
+fn turn(i: usize, j: usize, columns: usize) -> usize
+    requires { ⌜ (i < sectionsMost) × (j < stagesMost) × (columns ≤ stagesMost) ⌝ }
+    ensures { λ r. ⌜ r < wallsMost ⌝ }
+{
+    held(i * columns + j, WallCount::GREATEST - 1)
+}
+
+// The rises of the readings in that order, in groups.
+fn gathered(
+    readings: [SectionReadings; SectionCount::GREATEST],
+    rows: usize,
+    columns: usize,
+) -> [[u64; SIDE]; GROUPS]
+    requires { ⌜ (rows ≤ sectionsMost) × (columns ≤ stagesMost) × ((i j : ℕ) → i < rows → j < columns → ReadingIn (cell readings i j)) ⌝ }
+{
+    let mut rises = [[0; SIDE]; GROUPS];
+    for i in 0..rows {
+        let row = readings[i];
+        for j in 0..columns {
+            let reading = row.stages[j];
+            let at = turn(i, j, columns);
+            rises[at / SIDE][at % SIDE] = arith::magnitude(reading.surface.above(reading.air).0);
+        }
+    }
+    rises
+}
+
+// Rises and their fourth roots.
+struct Group {
+    rises: [u64; SIDE],
+    roots: [u64; SIDE],
+}
+
+// The fourth roots of the first `count` rises, group by group. A group with fewer than half of its rises is left out: by themselves they take less time.
+fn side_by_side(rises: [[u64; SIDE]; GROUPS], count: usize) -> [Group; GROUPS]
+    requires { ⌜ count ≤ cellsMost ⌝ }
+    ensures { λ r. ⌜ AllRooted r ⌝ }
+{
+    let zeros = [0; SIDE];
+    let none = Group {
+        rises: zeros,
+        roots: zeros,
+    };
+    let mut groups = [none; GROUPS];
+    let full = held((count + SIDE / 2) / SIDE, GROUPS);
+    for g in 0..full {
+        let some = rises[g];
+        let roots = fourth_roots(some);
+        groups[g] = Group { rises: some, roots };
+    }
+    groups
 }
 
 // The heat that leaves through the surface: each section that there is, in each stage that there is.
@@ -138,12 +251,19 @@ pub fn x9(
     let times = stages.lines;
     let rows = held(sections.count.0, SectionCount::GREATEST);
     let columns = held(stages.count.0, StageCount::GREATEST);
+    let groups = side_by_side(gathered(readings, rows, columns), rows * columns);
     let mut sum = Joules(0);
     for i in 0..rows {
         let row = readings[i];
         for j in 0..columns {
             let reading = row.stages[j];
-            sum = sum.plus(wall_heat(reading, places[i], times[j]));
+            let at = turn(i, j, columns);
+            let group = groups[at / SIDE];
+            let noted = Noted {
+                rise: group.rises[at % SIDE],
+                root: group.roots[at % SIDE],
+            };
+            sum = sum.plus(wall_heat(reading, places[i], times[j], noted));
         }
     }
     sum

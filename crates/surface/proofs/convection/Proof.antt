@@ -23,7 +23,7 @@ rise-fits c = search needs
 
 cast-size : tie.Need-cast-size
 cast-size c =
-    let p = start c .pre in
+    let p = start c .pre .0 in
     rw (toZ-ofZ (rise-fits c)) (yes-nonNeg (p .low), record { fits = lt-of-le-of-lt (abs≤⁺ (p .low) (p .high)) (lit< tt) })
 
 mul-first-term : tie.Need-mul-first-term
@@ -34,8 +34,8 @@ array-read-first-term c = search needs
 
 first-term-requires : tie.Need-first-term-requires
 first-term-requires c κs =
-    let p = start c .pre in
-    rw (toZ-ofZ (rise-fits c)) (placed-most (start c .args .place .0), abs≤⁺ (p .low) (p .high))
+    let p = start c .pre .0 in
+    rw (toZ-ofZ (rise-fits c)) (placed-most (start c .args .place .0), abs≤⁺ (p .low) (p .high), start c .pre .1)
 
 units-requires : tie.Need-units-requires
 units-requires c κs = rw (c .first-term .ensures) (search needs)
@@ -45,7 +45,7 @@ unfolding nearest
 returns told =
     let c = told .before in
     let read = c .before .before in
-    let p = start read .pre in
+    let p = start read .pre .0 in
     let fits : SFits w64 (c .units .result .0) = search needs in
     let term = rw (toZ-ofZ (rise-fits read)) at (c .before .first-term .ensures) in
     rw (toZ-ofZ fits, c .units .ensures, term)

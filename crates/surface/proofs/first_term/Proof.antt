@@ -8,10 +8,10 @@ use Rattle.surface.proofs.Terms.{product-most}
 use Rattle.surface.proofs.first_term.Statement.{statement}
 use Rattle.surface.proofs.first_term.Tie as tie
 
-product : (c : tie.After-fourth-root) → c .before .args .a * c .before .args .rise * c .fourth-root .result ≤ placedMost * warmerMost * fourthRootMost
-product c = rw (c .fourth-root .ensures) (product-most (c .before .pre .0) (c .before .pre .1))
+product : (c : tie.After-known) → c .before .args .a * c .before .args .rise * c .known .result ≤ placedMost * warmerMost * fourthRootMost
+product c = rw (c .known .ensures) (product-most (c .before .pre .0) (c .before .pre .1))
 
-small : tie.Need-cast-t6
+small : tie.Need-cast-t7
 small c = record { sfits = omega (arith, product c) }
 
 pub first-term-spec : {M : Type 1} → statement M
@@ -19,7 +19,7 @@ first-term-spec =
     tie.close
     (tie.spec
     (λ c. record { fits = omega (arith, mul-le-mul (c .pre .0) (c .pre .1)) })
-    (λ c κs. c .pre .1)
+    (λ c κs. (c .pre .1, c .pre .2))
     (λ c. record { fits = omega (arith, product c) })
     small
-    (λ c. rw (toZ-ofZ (small c), c .fourth-root .ensures)))
+    (λ c. rw (toZ-ofZ (small c), c .known .ensures)))

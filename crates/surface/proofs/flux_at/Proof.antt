@@ -13,15 +13,17 @@ use Rattle.surface.proofs.flux_at.Tie as tie
 
 above-requires : tie.Need-above-requires
 above-requires c κs =
-    let p = c .pre .reading in
+    let p = c .pre .0 .reading in
     fit (limits (p .surface) ∷ limits (p .air) ∷ []) (raw 0 ⟨-⟩ raw 1) tt
 
 convection-requires : tie.Need-convection-requires
 convection-requires c κs =
-    let p = c .before .pre in
+    let p = c .before .pre .0 in
     let ks = limits (p .reading .surface) ∷ limits (p .reading .air) ∷ [] in
-    rw (c .above .ensures)
-    (record { place = omega (arithℤ, p .section .place .high); low = sub-nonneg (p .reading .warmer); high = at-most ks (raw 0 ⟨-⟩ raw 1) tt })
+    rw (c .above .ensures) (
+      record { place = omega (arithℤ, p .section .place .high); low = sub-nonneg (p .reading .warmer); high = at-most ks (raw 0 ⟨-⟩ raw 1) tt },
+      c .before .pre .1,
+    )
 
 degrees-requires : tie.Need-degrees-requires
 degrees-requires c κs = search needs
@@ -31,7 +33,7 @@ degrees-requires-2 c κs = search needs
 
 radiation-requires : tie.Need-radiation-requires
 radiation-requires c κs =
-    let p = c .before .before .before .before .pre .reading in
+    let p = c .before .before .before .before .pre .0 .reading in
     rw (c .before .degrees .ensures, c .degrees2 .ensures) (record { surface = p .surface; air = p .air })
 
 both-requires : tie.Need-both-requires
