@@ -1,10 +1,7 @@
 -- The square root cut down to a whole number.
-use Prim.Native.Nat.{ℕ, zero, suc, _+_, _*_, _/_, _^_, _≤_, _<_}
-use mathlib.Core.Path.{_≡_}
-use mathlib.Core.List.{List}
+use Prim.Native.Nat.{ℕ, zero, suc, _+_, _*_, _/_, _≤_, _<_}
 use mathlib.Core.Bool.{cond}
 use lib.Dec.{leb}
-use lib.ListN.{getD}
 
 -- what it is: the greatest r with r · r ≤ n
 pub record IsRoot (n r : ℕ) : Type 0 where
@@ -19,15 +16,3 @@ rootIn (suc fuel) (suc m) = let r = 2 * rootIn fuel (suc m / 4) in cond (leb ((r
 
 unfoldable pub root : ℕ → ℕ
 root n = rootIn n n
-
--- ---- A root that is worked by pairs of bits, while the last `pairs` of them are not yet brought down: `root` is that of the others, `rest` what is left
-pub record Brought (n pairs root rest : ℕ) : Type 0 where
-  pub all : root * root + rest ≡ n / 2 ^ (2 * pairs)
-  pub least : rest ≤ 2 * root
-
--- how many are worked side by side, and each of them
-abbrev pub side : ℕ
-side = 6
-
-abbrev pub EachBrought : List ℕ → ℕ → List ℕ → List ℕ → Type 0
-EachBrought n pairs roots rests = (k : ℕ) → k < side → Brought (getD n k 0) pairs (getD roots k 0) (getD rests k 0)

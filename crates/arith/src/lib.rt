@@ -1,13 +1,17 @@
 // Division that rounds to the nearest whole number, and the square root cut down to one.
+mod roots;
+
 ghost use mathlib.Core.Path.{_≡_};
-ghost use mathlib.Core.List.{map};
-ghost use Prim.Native.Nat.{_+_, _*_, _^_, _≤_, _<_};
+ghost use Prim.Native.Nat.{_*_, _^_, _≤_, _<_};
 ghost use lib.IntN.{ℤ, pos, natAbs};
 ghost use lib.Signed.{_<ℤ_};
 ghost use mir.Syntax.{w64};
 ghost use mir.Val.{SFits};
 ghost use Rattle.arith.specs.Nearest.{nearest, nearestℕ, withSign};
-ghost use Rattle.arith.specs.Root.{root, EachBrought};
+ghost use Rattle.arith.specs.Root.{root};
+ghost use Rattle.arith.specs.Steps.{Stepped};
+pub use roots::SIDE;
+pub use roots::floor_roots;
 
 // The size of a number: that of the least i64 is no i64, but fits.
 pub fn magnitude(z: i64) -> u64
@@ -64,7 +68,7 @@ struct Work {
 // A step on paper (docs/ROOT.md): bring the next pair down to the rest, try the digit 1, and take it away where it goes.
 fn step(work: Work, pair: u64) -> Work
     requires { ⌜ (pair < 4) × (work .root < 2 ^ 32) × (work .rest ≤ 2 * work .root) ⌝ }
-    ensures { λ r. ⌜ (r .root * r .root + r .rest ≡ 4 * (work .root * work .root + work .rest) + pair) × (r .rest ≤ 2 * r .root) ⌝ }
+    ensures { λ r. ⌜ Stepped pair (work .root) (work .rest) (r .root) (r .rest) ⌝ }
 {
     let rest = work.rest * 4 + pair;
     let trial = work.root * 4 + 1;
@@ -96,55 +100,4 @@ pub fn floor_root(n: u64) -> u64
         work = step(work, (n >> (2 * pairs)) % 4);
     }
     work.root
-}
-
-// How many roots are worked side by side: one root's steps wait for each other, and a processor has time for those of others in between.
-pub const SIDE: usize = 6;
-
-// As many square roots that are being worked.
-struct Works {
-    root: [u64; SIDE],
-    rest: [u64; SIDE],
-}
-
-// The next step of each.
-fn steps(works: Works, n: [u64; SIDE], pairs: u64) -> Works
-    requires { ⌜ (pairs < 32) × EachBrought n (pairs + 1) (works .root) (works .rest) ⌝ }
-    ensures { λ r. ⌜ EachBrought n pairs (r .root) (r .rest) ⌝ }
-{
-    let before = works.root;
-    let left = works.rest;
-    let mut root = [0; SIDE];
-    let mut rest = [0; SIDE];
-    let mut i = 0;
-    while i < SIDE {
-        let work = step(
-            Work {
-                root: before[i],
-                rest: left[i],
-            },
-            (n[i] >> (2 * pairs)) % 4,
-        );
-        root[i] = work.root;
-        rest[i] = work.rest;
-        i += 1;
-    }
-    Works { root, rest }
-}
-
-// The roots of several numbers, side by side: all 32 pairs, each brought down in every one of them before the next is.
-pub fn floor_roots(n: [u64; SIDE]) -> [u64; SIDE]
-    ensures { λ r. ⌜ r ≡ map root n ⌝ }
-{
-    let none = [0; SIDE];
-    let mut works = Works {
-        root: none,
-        rest: none,
-    };
-    let mut pairs = 32;
-    while 0 < pairs {
-        pairs -= 1;
-        works = steps(works, n, pairs);
-    }
-    works.root
 }

@@ -5,7 +5,7 @@ ghost use lib.IntN.{ℤ, pos, natAbs, _+ℤ_, _-ℤ_, _*ℤ_};
 ghost use lib.ListN.{getD};
 ghost use mir.Syntax.{w64};
 ghost use mir.Val.{SFits};
-ghost use Rattle.arith.specs.Root.{side};
+ghost use Rattle.arith.specs.Steps.{side};
 ghost use Rattle.sheet.specs.Firing.{Wall, Firing};
 ghost use Rattle.sheet.specs.Quantities.{sectionsMost, stagesMost, wallsMost};
 ghost use Rattle.sheet.specs.Shown.{stage as stageOf, section as sectionOf, cell};
@@ -69,17 +69,17 @@ fn known(rise: u64, noted: Noted) -> u64
     }
 }
 
-// A product, or 0 where the first factor is above the greatest and the product might not fit.
+// A product, or 0 where the first factor is above the greatest and the product might be too large.
 fn times(x: u64, by: u64, most: u64) -> u64
     requires { ⌜ most * by < 2 ^ 64 ⌝ }
-    ensures { λ r. ⌜ (x ≤ most → r ≡ x * by) ⌝ }
+    ensures { λ r. ⌜ (x ≤ most → r ≡ x * by) × (r ≤ most * by) ⌝ }
 {
     if x <= most { x * by } else { 0 }
 }
 
 fn each_times(x: [u64; SIDE], by: u64, most: u64) -> [u64; SIDE]
     requires { ⌜ most * by < 2 ^ 64 ⌝ }
-    ensures { λ r. ⌜ ((k : ℕ) → k < side → getD x k 0 ≤ most → getD r k 0 ≡ getD x k 0 * by) ⌝ }
+    ensures { λ r. ⌜ ((k : ℕ) → k < side → (getD x k 0 ≤ most → getD r k 0 ≡ getD x k 0 * by) × (getD r k 0 ≤ most * by)) ⌝ }
 {
     let mut r = [0; SIDE];
     let mut i = 0;
@@ -94,8 +94,8 @@ fn each_times(x: [u64; SIDE], by: u64, most: u64) -> [u64; SIDE]
 fn fourth_roots(rises: [u64; SIDE]) -> [u64; SIDE]
     ensures { λ r. ⌜ EachRooted rises r ⌝ }
 {
-    let first = arith::floor_roots(each_times(rises, 1_000_000_000_000_000, 10_000));
-    arith::floor_roots(each_times(first, 100_000_000, 100_000_000_000))
+    let first = arith::floor_roots(each_times(rises, 1_000_000_000_000_000, 4_000), 31);
+    arith::floor_roots(each_times(first, 100_000_000, 2_000_000_000), 29)
 }
 
 // The first term of formula 25, A Δ ⁴√Δ, before it is rounded.

@@ -5,7 +5,7 @@ use mathlib.Core.Path.{_≡_}
 use native.Mathlib.Omega.{arith}
 use borrow.Author.Needs.{needs}
 use lib.Count.{leading-le}
-use Rattle.arith.specs.Root.{Brought}
+use Rattle.arith.specs.Steps.{Brought}
 use Rattle.arith.proofs.Pairs.{none-brought, highest, one-brought, small, all-brought}
 use Rattle.arith.proofs.floor_root.Statement.{statement}
 use Rattle.arith.proofs.floor_root.Tie as tie
@@ -30,9 +30,8 @@ step-requires c κs =
 loop-again : tie.Need-loop-again Inv-loop μ-loop
 loop-again c =
     let l = c .before .before .loop in
-    let w = c .step .ensures in
     let p : l .pairs ≡ l .pairs - 1 + 1 = omega arith in
-    (omega (arith, l .inv .0), one-brought p (l .inv .1) (w .0) (w .1))
+    (omega (arith, l .inv .0), one-brought p (l .inv .1) (c .step .ensures))
 
 returns : tie.Need-returns Inv-loop μ-loop
 returns c = all-brought (c .loop-test .left) (c .before .loop .inv .1)

@@ -4,14 +4,14 @@ use mathlib.Core.Path.{_≡_, refl}
 use native.Mathlib.Omega.{arith}
 use borrow.Author.Needs.{needs}
 use lib.ListN.{length, getD, length-set}
-use Rattle.arith.specs.Root.{side}
+use Rattle.arith.specs.Steps.{side}
 use Rattle.arith.proofs.Sides.{set-one}
 use Rattle.surface.proofs.each_times.Statement.{statement}
 use Rattle.surface.proofs.each_times.Tie as tie
 
 abbrev Inv-loop : tie.InvT-loop
 Inv-loop by most x r₀ i₀ r i =
-    (i ≤ side) × (length r ≡ side) × ((k : ℕ) → k < i → getD x k 0 ≤ most → getD r k 0 ≡ getD x k 0 * by)
+    (i ≤ side) × (length r ≡ side) × ((k : ℕ) → k < i → (getD x k 0 ≤ most → getD r k 0 ≡ getD x k 0 * by) × (getD r k 0 ≤ most * by))
 
 abbrev μ-loop : tie.MeasureT-loop
 μ-loop by most x r₀ i₀ r i = side - i
@@ -23,7 +23,7 @@ loop-again : tie.Need-loop-again Inv-loop μ-loop
 loop-again c =
     let l = c .before .before in
     let a = l .before .args in
-    let Is : ℕ → ℕ → Type 0 = λ k y. getD (a .t1) k 0 ≤ a .most → y ≡ getD (a .t1) k 0 * a .by in
+    let Is : ℕ → ℕ → Type 0 = λ k y. (getD (a .t1) k 0 ≤ a .most → y ≡ getD (a .t1) k 0 * a .by) × (y ≤ a .most * a .by) in
     let more = set-one Is 0 (l .loop .r) (l .loop .i) (c .times .result) (omega arith) (c .times .ensures) in
     (omega arith, simp length-set (l .loop .inv .1), λ k h. more k (λ d. l .loop .inv .2 k (omega arith)))
 

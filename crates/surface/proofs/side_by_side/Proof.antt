@@ -4,7 +4,8 @@ use mathlib.Core.Path.{_≡_, refl}
 use native.Mathlib.Omega.{arith}
 use borrow.Author.Needs.{needs}
 use lib.ListN.{length, getD, replicate, length-set}
-use Rattle.arith.specs.Root.{side, root, rootIn}
+use Rattle.arith.specs.Root.{root, rootIn}
+use Rattle.arith.specs.Steps.{side}
 use Rattle.arith.proofs.Sides.{zero-at, set-one}
 use Rattle.surface.specs.declared.Group.{Group}
 use Rattle.surface.specs.Cells.{Rooted, EachRooted, groupsMost, noGroup, AllRooted}
