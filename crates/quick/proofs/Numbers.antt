@@ -6,7 +6,6 @@ use mathlib.Core.List.{List, [], _∷_, _++_}
 use Prim.Native.Nat.{ℕ, zero, suc, _+_, _-_, _*_, _^_, _≤_, _<_}
 use native.Mathlib.Nat.{add-zero, pow-le-pow-right}
 use native.Mathlib.Numerals.{add-one}
-use native.Mathlib.Decide.{decLe}
 use native.Mathlib.Omega.{arith}
 use lib.ListN.{length, getD, drop, set, length-append}
 use lib.Seq.{drop-cons, getD-take, getD-drop}
@@ -52,12 +51,18 @@ no-sign (b ∷ l) z e = here (eqb b 45) refl
         absurd (omega arith)
     here false q = refl
 
--- one step of reading digits up to the byte c
+-- one step of reading digits up to the byte c, which is no digit
 module _ (s : List ℕ) (c i : ℕ) (h : i < length s) (m : ℕ) where
-  pub digit-more : (getD s i 0 ≡ c → ⊥) → 48 ≤ getD s i 0 → getD s i 0 ≤ 57
-      → digitsRead m (upTo c (drop i s)) ≡ digitsRead (m * 10 + (getD s i 0 - 48)) (upTo c (drop (i + 1) s))
+  pub digit-more : (d : ℕ) → getD s i 0 ≡ d + 48 → d ≤ 9 → c < 48
+      → (find s (i + 1) c ≡ find s i c) × (digitsRead (m * 10 + d) (upTo c (drop (i + 1) s)) ≡ digitsRead m (upTo c (drop i s)))
   unfolding digitsRead upTo
-  digit-more n g l = rw (add-one, drop-cons s i 0, ne-eqb (getD s i 0) c n, le-ltb (getD s i 0) 48 g, le-ltb 57 (getD s i 0) l)
+  digit-more d e n l =
+      let b = getD s i 0 in
+      let other : b ≡ c → ⊥ = λ q. omega arith in
+      let is : b - 48 ≡ d = omega arith in (
+        sym (find-miss c s i h other),
+        sym (rw (add-one, drop-cons s i 0, ne-eqb b c other, le-ltb b 48 (omega arith), le-ltb 57 b (omega arith), is)),
+      )
 
   digit-end : getD s i 0 ≡ c → digitsRead m (upTo c (drop i s)) ≡ Value (pos m)
   unfolding digitsRead upTo

@@ -6,13 +6,8 @@ use lib.ListN.{length, drop}
 use lib.IntN.{ℤ}
 use Rattle.form.specs.Fields.{accepted, fieldsAt}
 
--- from the number i on, which stands at a place: where r is not 0 the array is what the definition says; and whatever r is, it keeps its length
--- and all beyond the first n
-pub record RestRead (s : List ℕ) (at n i : ℕ) (v w : List ℤ) (r : ℕ) : Type 0 where
-  pub read : (r ≡ 0 → ⊥) → accepted r w ≡ fieldsAt s at n i v
+-- where r is not 0 the array is what the definition says; and whatever r is, it keeps its length and all beyond the first n
+pub record RowRead (s : List ℕ) (start n : ℕ) (v w : List ℤ) (r : ℕ) : Type 0 where
+  pub read : (r ≡ 0 → ⊥) → accepted r w ≡ fieldsAt s start n 0 v
   pub long : length w ≡ length v
   pub beyond : drop n w ≡ drop n v
-
--- the whole row
-abbrev pub RowRead : List ℕ → ℕ → ℕ → List ℤ → List ℤ → ℕ → Type 0
-RowRead s start n v w r = RestRead s start n 0 v w r
