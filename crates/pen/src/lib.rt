@@ -78,10 +78,16 @@ fn put_digits(out: &mut [u8], n: u64) -> usize
     let k = digit_count(n);
     let mut rest = n;
     let mut i = k;
-    while 0 < i {
-        i -= 1;
-        out[i] = (48 + rest % 10) as u8;
-        rest /= 10;
+    // Two at a time, since each division waits for the one before.
+    while 1 < i {
+        i -= 2;
+        let two = rest % 100;
+        out[i + 1] = (48 + two % 10) as u8;
+        out[i] = (48 + two / 10) as u8;
+        rest /= 100;
+    }
+    if 0 < i {
+        out[0] = (48 + rest % 10) as u8;
     }
     k
 }
