@@ -59,7 +59,8 @@ second : tie.Need-slice-write-out-2 Inv-loop μ-loop
 second c = simp length-set (omega (arith, c .before .loop .inv .0, c .loop-test .taken))
 
 -- no digit is left to write
-written : (n rest k : ℕ) (out₀ out : List ℕ) → k ≡ length (digits n) → over 0 (lastDigits 0 rest) out ≡ over 0 (digits n) out₀ → Written 0 (digits n) out₀ out k
+written : (n rest k : ℕ) (out₀ out : List ℕ) → k ≡ length (digits n) → over 0 (lastDigits 0 rest) out ≡ over 0 (digits n) out₀ →
+    Written 0 (digits n) out₀ out k
 written n rest k out₀ out e w = record { ends = omega (arith, e); holds = rw (last-none, over-none) at w }
 
 -- one is, where their count is odd
@@ -67,7 +68,8 @@ returns : tie.Need-returns Inv-loop μ-loop
 returns c =
     let l = c .before .before .loop in
     let one : l .i ≡ 1 = omega (arith, c .before .loop-test .left, c .if1 .taken) in
-    written _ _ _ _ _ (c .before .before .before .digit-count .ensures) (turn 1 (l .rest) (l .out) (omega arith) (omega (arith, l .inv .0)) ∙ rw one at (l .inv .1))
+    let last = turn 1 (l .rest) (l .out) (omega arith) (omega (arith, l .inv .0)) in
+    written _ _ _ _ _ (c .before .before .before .digit-count .ensures) (last ∙ rw one at (l .inv .1))
 
 returns-2 : tie.Need-returns-2 Inv-loop μ-loop
 returns-2 c =

@@ -27,7 +27,7 @@ abbrev μ-loop : tie.MeasureT-loop
 
 -- the start, from where the first digit is known
 abbrev start : tie.Else2 Inv-loop μ-loop → tie.Start Inv-loop μ-loop
-start c = c .before .before .before .before .before
+start c = let first = c .before .before in first .before .before .before
 
 digit : (c : tie.Else2 Inv-loop μ-loop) → getD (start c .args .s .now) (start c .args .at) 0 ≡ c .before .wrapping-sub-u8 .result + 48
 digit c = omega (arith, c .before .wrapping-sub-u8 .ensures, c .if2 .left)

@@ -18,9 +18,6 @@ Inv-loop from to half at₀ pairs₀ at pairs = (to ≤ pairs) × (pairs ≤ fro
 abbrev μ-loop : tie.MeasureT-loop
 μ-loop from to half at₀ pairs₀ at pairs = pairs
 
-mul-halves : tie.Need-mul-halves Inv-loop μ-loop
-mul-halves c = search needs
-
 loop-holds : tie.Need-loop-holds Inv-loop μ-loop
 loop-holds c = (omega arith, omega arith, λ n h b. b)
 
@@ -56,4 +53,7 @@ returns c = λ k h.
     rw (← e) (l .loop .inv .2 (s .args .n) (l .before .halves .ensures) (s .pre .5) k h)
 
 pub down-spec : {M : Type 1} → statement M
-down-spec = tie.close (tie.spec Inv-loop μ-loop mul-halves (λ c κs. search needs) loop-holds (λ c. search needs) steps-requires (λ c. omega arith) loop-again returns)
+down-spec =
+    tie.close
+    (tie.spec Inv-loop μ-loop (λ c. search needs) (λ c κs. search needs) loop-holds (λ c. search needs) steps-requires (λ c. omega arith) loop-again
+    returns)
