@@ -11,7 +11,16 @@ extern "C" {
     fn floor_root(n: u64) -> u64;
     #[link_name = "surface::fourth_root"]
     fn fourth_root(rise: u64) -> u64;
+    // an array goes by its place, and so does the answer
+    #[link_name = "arith::roots::floor_roots"]
+    fn floor_roots(roots: *mut [u64; SIDE], numbers: *const [u64; SIDE], pairs: u32);
+    #[link_name = "surface::fourth_roots"]
+    fn fourth_roots(roots: *mut [u64; SIDE], rises: *const [u64; SIDE]);
 }
+
+/// How many are worked side by side, and the most pairs of bits that they may have there.
+const SIDE: usize = 8;
+const PAIRS_MOST: u32 = 31;
 
 /// The greatest difference of temperatures at a wall, in tenths of a degree, and what the two roots are taken of.
 const RISE_MOST: u64 = 3_200;
@@ -30,6 +39,18 @@ fn library_fourth(rise: u64) -> u64 {
     unsafe { fourth_root(rise) }
 }
 
+fn library_side(numbers: &[u64; SIDE], pairs: u32) -> [u64; SIDE] {
+    let mut roots = [0; SIDE];
+    unsafe { floor_roots(&mut roots, numbers, pairs) };
+    roots
+}
+
+fn library_fourths(rises: &[u64; SIDE]) -> [u64; SIDE] {
+    let mut roots = [0; SIDE];
+    unsafe { fourth_roots(&mut roots, rises) };
+    roots
+}
+
 fn second_fourth(rise: u64) -> u64 {
     whole::root(whole::root(rise * FIRST) * SECOND)
 }
@@ -42,14 +63,45 @@ fn held(n: u64) {
     assert!(n >= 1 << 63 || r == whole::root(n), "the root of {n} is {r} here and {} there", whole::root(n));
 }
 
+/// Numbers that go side by side, until there are eight of them.
+#[derive(Default)]
+struct Side {
+    numbers: Vec<u64>,
+    count: u64,
+}
+
+impl Side {
+    /// With as few pairs as they can be called with, and with as many.
+    fn held(&mut self, n: u64) {
+        if n >> (2 * PAIRS_MOST) != 0 {
+            return;
+        }
+        self.numbers.push(n);
+        let Ok(numbers) = <[u64; SIDE]>::try_from(self.numbers.as_slice()) else { return };
+        self.numbers.clear();
+        let greatest = numbers.iter().max().map_or(0, |n| (65 - n.leading_zeros()) / 2);
+        for pairs in [greatest.max(16), PAIRS_MOST] {
+            assert_eq!(library_side(&numbers, pairs), numbers.map(library), "the roots of {numbers:?} with {pairs} pairs");
+        }
+        self.count += SIDE as u64;
+    }
+}
+
 fn check() {
     let mut count: u64 = 1 << 20;
-    (0..count).for_each(held);
+    let mut side = Side::default();
+    (0..count).for_each(|n| {
+        held(n);
+        side.held(n);
+    });
     for bits in 1..=32 {
         let (least, greatest) = (1 << (bits - 1), (1 << bits) - 1);
         let step = (greatest - least) / SPREAD + 1;
         for k in (least..=greatest).step_by(step as usize).chain([greatest]) {
-            [k * k - 1, k * k, k * k + 2 * k].into_iter().for_each(held);
+            for n in [k * k - 1, k * k, k * k + 2 * k] {
+                held(n);
+                side.held(n);
+            }
             count += 3;
         }
     }
@@ -59,8 +111,27 @@ fn check() {
         held(library(first) * SECOND);
         assert_eq!(library_fourth(rise), second_fourth(rise), "the fourth root of {rise}");
         count += 2;
+        // in each place, beside others
+        for place in 0..SIDE as u64 {
+            let rises = std::array::from_fn(|at| (rise + 401 * (at as u64 + SIDE as u64 - place)) % (RISE_MOST + 1));
+            assert_eq!(library_fourths(&rises), rises.map(second_fourth), "the fourth roots of {rises:?}");
+        }
     }
     println!("roots: {count} roots and {} fourth roots, no difference", RISE_MOST + 1);
+    println!("roots: {} side by side, and every fourth root in each of {SIDE} places, no difference", side.count);
+}
+
+/// The nanoseconds of a reading's share, on rises in no order.
+fn time_side(what: &str, rises: &[u64]) {
+    let mut fastest = f64::INFINITY;
+    for _ in 0..ROUNDS {
+        let start = Instant::now();
+        let groups = rises.chunks_exact(SIDE).map(|group| library_fourths(group.try_into().expect("eight")));
+        let sum = groups.fold(0u64, |sum, roots| sum.wrapping_add(roots.iter().sum()));
+        fastest = fastest.min(start.elapsed().as_nanos() as f64 / rises.len() as f64);
+        std::hint::black_box(sum);
+    }
+    println!("roots: {what}: {fastest:.1} ns");
 }
 
 /// The nanoseconds of one call, on numbers in no order.
@@ -85,5 +156,6 @@ fn main() {
     time("one root, the library", &radicands, library);
     time("one root, the independent program", &radicands, whole::root);
     time("the two of a reading, the library", &rises, library_fourth);
+    time_side("the two of a reading, the library, eight readings side by side", &rises);
     time("the two of a reading, the independent program", &rises, second_fourth);
 }
