@@ -1,7 +1,6 @@
-// The blocks of stages, setters and parts: a line's quantities, the line, the count line and its rows.
+// The blocks of setters and parts: a line's quantities, the line, the count line and its rows.
 mod parts;
 mod setters;
-pub mod stages;
 
 ghost use Rattle.due.specs.Place.{Ready};
 ghost use Rattle.document.specs.Entries.{paragraphsOf};

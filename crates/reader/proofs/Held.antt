@@ -37,13 +37,13 @@ use Rattle.due.proofs.Sequence.{pass-on, one-after}
 use Rattle.head.specs.declared.heading.Heading.{Heading}
 use Rattle.fuel.specs.declared.Fuelling.{Fuelling}
 use Rattle.head.specs.declared.drying.Drying.{Drying}
-use Rattle.blocks.specs.declared.stages.Staging.{Staging}
+use Rattle.stages.specs.declared.Staging.{Staging}
 use Rattle.blocks.specs.declared.Loading.{Loading}
 use Rattle.walls.specs.declared.Surfaces.{Surfaces}
 use Rattle.due.specs.Said.{Saying, says, Said, GroupRead}
 use Rattle.head.specs.Head.{headingSays, dryingSays}
 use Rattle.fuel.specs.Fuel.{fuellingSays}
-use Rattle.blocks.specs.Stages.{heldBy, itself, stagingSays, StagesRead}
+use Rattle.stages.specs.Stages.{heldBy, itself, stagingSays, StagesRead}
 use Rattle.blocks.specs.Loads.{loadingSays}
 use Rattle.walls.specs.Surfaces.{surfacesSay, Below, SurfacesRead}
 use Rattle.reader.specs.All.{headOf, Settled, Blanked, Held}

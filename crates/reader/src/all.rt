@@ -6,7 +6,6 @@ use crate::ends::analysed;
 use crate::ends::closing_line;
 use crate::ends::edition_line;
 use blocks::loading_lines;
-use blocks::stages::staging_lines;
 use due::Place;
 use fuel::Fuelling;
 use fuel::fuelling_lines;
@@ -17,6 +16,7 @@ use head::heading::heading_lines;
 use quantity::sheet::Edition;
 use sheet::Head;
 use sheet::Sheet;
+use stages::staging_lines;
 use walls::surface_lines;
 
 // The head of a sheet, from its first line and the groups above the stages.

@@ -1,10 +1,10 @@
 -- Five constructors in a row. Assumes nothing.
 use borrow.Author.Needs.{needs}
 use mathlib.Core.Bool.{false}
-use Rattle.blocks.specs.Stages.{heldBy}
+use Rattle.stages.specs.Stages.{heldBy}
 use Rattle.due.proofs.Chain.{_&_, done, taken-as}
-use Rattle.blocks.proofs.stages.stage_of.Statement.{statement}
-use Rattle.blocks.proofs.stages.stage_of.Tie as tie
+use Rattle.stages.proofs.stage_of.Statement.{statement}
+use Rattle.stages.proofs.stage_of.Tie as tie
 
 returns : tie.Need-returns
 returns c =

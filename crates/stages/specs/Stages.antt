@@ -10,7 +10,7 @@ use Rattle.due.specs.Block.{Filled}
 use Rattle.sheet.specs.Blank.{noAnalysis, blankStage}
 use Rattle.sheet.specs.Quantities.{stagesMost}
 use Rattle.document.specs.Entries.{paragraphsOf}
-use Rattle.blocks.specs.declared.stages.Staging.{Staging}
+use Rattle.stages.specs.declared.Staging.{Staging}
 use Rattle.due.specs.Said.{Saying, saysAll, GroupRead}
 
 -- the struct of a row: what it shows is the row's stage, and where the flue is not analysed nothing else stands in it

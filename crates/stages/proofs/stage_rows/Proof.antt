@@ -4,12 +4,12 @@ use mathlib.Core.Path.{_≡_}
 use native.Mathlib.Omega.{arith}
 use borrow.Author.Needs.{needs}
 use Rattle.document.specs.Sheet2.{stageLineBy, stageRuleBy}
-use Rattle.blocks.specs.Stages.{heldBy, itself}
+use Rattle.stages.specs.Stages.{heldBy, itself}
 use Rattle.sheet.specs.Blank.{blankStage}
 use Rattle.sheet.specs.Quantities.{stagesMost}
 use Rattle.due.proofs.Fills.{Filling, filling-none, filling-next}
-use Rattle.blocks.proofs.stages.stage_rows.Statement.{statement}
-use Rattle.blocks.proofs.stages.stage_rows.Tie as tie
+use Rattle.stages.proofs.stage_rows.Statement.{statement}
+use Rattle.stages.proofs.stage_rows.Tie as tie
 
 abbrev Inv-loop : tie.InvT-loop
 Inv-loop s k flue lines₀ p₀ i₀ lines p i = Filling itself (heldBy flue) blankStage stagesMost s (stageLineBy flue) (stageRuleBy flue) k p₀ p i lines

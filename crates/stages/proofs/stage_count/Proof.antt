@@ -3,8 +3,8 @@ use borrow.Author.Needs.{needs}
 use Rattle.text.specs.Bytes.{bytes}
 use Rattle.sheet.specs.Quantities.{stagesLeast, stagesMost}
 use Rattle.due.proofs.Quantities.{counted}
-use Rattle.blocks.proofs.stages.stage_count.Statement.{statement}
-use Rattle.blocks.proofs.stages.stage_count.Tie as tie
+use Rattle.stages.proofs.stage_count.Statement.{statement}
+use Rattle.stages.proofs.stage_count.Tie as tie
 
 returns : tie.Need-returns
 returns c =

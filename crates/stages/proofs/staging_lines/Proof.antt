@@ -10,8 +10,8 @@ use Rattle.document.specs.Entries.{paragraphsOf}
 use Rattle.document.specs.Sheet2.{stageLineBy, stageRuleBy, stagingBy}
 use Rattle.due.proofs.Sequence.{block-after}
 use Rattle.due.proofs.Said.{block-read}
-use Rattle.blocks.proofs.stages.staging_lines.Statement.{statement}
-use Rattle.blocks.proofs.stages.staging_lines.Tie as tie
+use Rattle.stages.proofs.staging_lines.Statement.{statement}
+use Rattle.stages.proofs.staging_lines.Tie as tie
 
 abbrev paragraph : Bool → Paragraph
 paragraph flue = many (bytes "stages") stagesLeast stagesMost (stageLineBy flue) (stageRuleBy flue)

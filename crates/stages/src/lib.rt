@@ -17,7 +17,7 @@ ghost use Rattle.document.specs.Reader.{Sheet, countLine, readLine, readRows};
 ghost use Rattle.due.specs.Place.{Ready, After};
 ghost use Rattle.due.specs.Taking.{from, Taken};
 ghost use Rattle.due.specs.Block.{CountAfter, Filled};
-ghost use Rattle.blocks.specs.Stages.{StagesRead, heldBy, itself};
+ghost use Rattle.stages.specs.Stages.{StagesRead, heldBy, itself};
 use due::Place;
 use due::due;
 use due::ranged;

@@ -12,9 +12,9 @@ use Rattle.document.specs.Schema.{plain}
 use Rattle.document.specs.Tests.{when, analysis-rule}
 use Rattle.document.specs.Sheet2.{analysedLine}
 use Rattle.due.proofs.Lines.{ruled-line}
-use Rattle.blocks.specs.Stages.{heldBy}
-use Rattle.blocks.proofs.stages.analysed_line.Statement.{statement}
-use Rattle.blocks.proofs.stages.analysed_line.Tie as tie
+use Rattle.stages.specs.Stages.{heldBy}
+use Rattle.stages.proofs.analysed_line.Statement.{statement}
+use Rattle.stages.proofs.analysed_line.Tie as tie
 
 returns : tie.Need-returns
 returns c =

@@ -4,8 +4,8 @@ use borrow.Author.Needs.{needs}
 use mir.Syntax.{w16, w64}
 use mir.Val.{SFits}
 use Rattle.arith.proofs.Machine.{Known, whole, arg, from, _⟨+⟩_, fits, result}
-use Rattle.blocks.proofs.stages.together.Statement.{statement}
-use Rattle.blocks.proofs.stages.together.Tie as tie
+use Rattle.stages.proofs.together.Statement.{statement}
+use Rattle.stages.proofs.together.Tie as tie
 
 -- what is known of the three is their widths
 co : (c : tie.Start) → SFits w16 (c .args .x .co .0)

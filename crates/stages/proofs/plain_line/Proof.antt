@@ -4,10 +4,10 @@ use borrow.Author.Needs.{needs}
 use Rattle.document.specs.Schema.{plain}
 use Rattle.document.specs.Document01.{stageLine}
 use mathlib.Core.Bool.{false}
-use Rattle.blocks.specs.Stages.{heldBy}
+use Rattle.stages.specs.Stages.{heldBy}
 use Rattle.due.proofs.Lines.{line-after}
-use Rattle.blocks.proofs.stages.plain_line.Statement.{statement}
-use Rattle.blocks.proofs.stages.plain_line.Tie as tie
+use Rattle.stages.proofs.plain_line.Statement.{statement}
+use Rattle.stages.proofs.plain_line.Tie as tie
 
 returns : tie.Need-returns
 returns c =

@@ -1,7 +1,7 @@
 -- Either sheet's own line. Assumes nothing.
 use borrow.Author.Needs.{needs}
-use Rattle.blocks.proofs.stages.stage_line.Statement.{statement}
-use Rattle.blocks.proofs.stages.stage_line.Tie as tie
+use Rattle.stages.proofs.stage_line.Statement.{statement}
+use Rattle.stages.proofs.stage_line.Tie as tie
 
 returns : tie.Need-returns
 returns c seen = rw (c .before .if1 .taken) (c .analysed-line .ensures)

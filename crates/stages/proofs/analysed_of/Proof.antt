@@ -1,10 +1,10 @@
 -- Seven constructors in a row. Assumes nothing.
 use borrow.Author.Needs.{needs}
 use mathlib.Core.Bool.{true}
-use Rattle.blocks.specs.Stages.{heldBy}
+use Rattle.stages.specs.Stages.{heldBy}
 use Rattle.due.proofs.Chain.{_&_, done, taken-as}
-use Rattle.blocks.proofs.stages.analysed_of.Statement.{statement}
-use Rattle.blocks.proofs.stages.analysed_of.Tie as tie
+use Rattle.stages.proofs.analysed_of.Statement.{statement}
+use Rattle.stages.proofs.analysed_of.Tie as tie
 
 returns : tie.Need-returns
 returns c =
