@@ -6,8 +6,5 @@ pub mod Span
 pub mod Machine
 pub mod NearestLaws
 pub mod Ties
-pub mod RootLaws
-pub mod Pairs
-pub mod Sides
 pub mod Examples
 pub mod Signed

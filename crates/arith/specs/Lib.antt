@@ -1,3 +1,1 @@
 pub mod Nearest
-pub mod Root
-pub mod Steps

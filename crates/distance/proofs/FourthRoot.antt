@@ -7,10 +7,10 @@ use native.Mathlib.Nat.{le-trans, lt-of-lt-of-le, mul-le-mul, mul-le-mul-left, m
 use native.Mathlib.Decide.{decLe}
 use native.Mathlib.Omega.{arith}
 use lib.Dec.{lit<}
-use Rattle.arith.specs.Root.{IsRoot, root}
+use Rattle.roots.specs.Root.{IsRoot, root}
 use Rattle.arith.proofs.Ring.{v, #, _⊗_, ringℕ}
 use Rattle.arith.proofs.NearestLaws.{Half, halfℕ}
-use Rattle.arith.proofs.RootLaws.{root-is, root-least}
+use Rattle.roots.proofs.RootLaws.{root-is, root-least}
 use Rattle.formulas.specs.Rounding.{squareRoot, fourthRoot, convected, fourthPower, power}
 use Rattle.formulas.specs.Sizes.{placedMost, warmerMost}
 

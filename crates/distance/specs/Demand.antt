@@ -5,7 +5,7 @@ use mathlib.Core.Path.{_≡_}
 use mathlib.Core.Bool.{cond, _||_}
 use mathlib.Core.List.{List}
 use lib.IntN.{ℤ, pos, natAbs, _-ℤ_, _*ℤ_}
-use Rattle.arith.specs.Root.{root}
+use Rattle.roots.specs.Root.{root}
 use Rattle.text.specs.Bytes.{bytes}
 use Rattle.sheet.specs.Firing.{Wall, Firing}
 use Rattle.sheet.specs.Block.{sum}

@@ -7,7 +7,7 @@ use mathlib.Core.List.{List, [], _∷_}
 use lib.Dec.{T, eqb}
 use lib.IntN.{ℤ, pos}
 use Rattle.arith.specs.Nearest.{nearest, nearestℕ, tie}
-use Rattle.arith.specs.Root.{root, rootIn}
+use Rattle.roots.specs.Root.{root, rootIn}
 use Rattle.sheet.specs.Firing.{Gas, Stuff, Water, Analysis, Stage, Section, Wall, Firing}
 use Rattle.sheet.specs.Shown.{same}
 use Rattle.sheet.specs.Block.{sum}

@@ -2,7 +2,7 @@
 use Prim.Native.Nat.{ℕ, _*_, _^_}
 use lib.IntN.{ℤ, pos, _*ℤ_}
 use Rattle.arith.specs.Nearest.{nearest, nearestℕ}
-use Rattle.arith.specs.Root.{root}
+use Rattle.roots.specs.Root.{root}
 use Rattle.sheet.specs.Firing.{Wall}
 
 pub record Rounding : Type 0 where

@@ -4,7 +4,7 @@ use Prim.Native.Nat.{ℕ}
 use mathlib.Core.Path.{_≡_, refl}
 use mathlib.Core.List.{List}
 use Rattle.arith.specs.Nearest.{nearest, nearestℕ, tie}
-use Rattle.arith.specs.Root.{root, rootIn}
+use Rattle.roots.specs.Root.{root, rootIn}
 use Rattle.sheet.specs.Block.{sum}
 use Rattle.text.specs.Bytes.{bytes}
 use Rattle.text.specs.Number.{digitsRead, unsigned, numberWithin}

@@ -4,9 +4,9 @@ use native.Mathlib.Nat.{lt-of-le-of-lt, mul-le-mul, mul-le-mul-right}
 use native.Mathlib.Omega.{arith}
 use lib.Dec.{lit<}
 use lib.IntN.{pos}
-use Rattle.arith.specs.Root.{root}
+use Rattle.roots.specs.Root.{root}
 use Rattle.arith.proofs.NearestLaws.{atmostℕ}
-use Rattle.arith.proofs.RootLaws.{root-is, root-most}
+use Rattle.roots.proofs.RootLaws.{root-is, root-most}
 use Rattle.sheet.specs.declared.Reading.{Reading}
 use Rattle.sheet.specs.Firing.{Wall}
 use Rattle.formulas.specs.Rounding.{squareRoot, fourthRoot, convected}

@@ -7,7 +7,7 @@ use lib.ListN.{getD, take}
 use lib.Signed.{_≤ℤ_}
 use mir.Syntax.{w64}
 use mir.Val.{SFits}
-use Rattle.arith.specs.Steps.{side}
+use Rattle.roots.specs.Steps.{side}
 use Rattle.sheet.specs.declared.Reading.{Reading}
 use Rattle.sheet.specs.declared.SectionReadings.{SectionReadings}
 use Rattle.sheet.specs.declared.Sections.{Sections}

@@ -5,7 +5,7 @@ ghost use lib.IntN.{ℤ, pos, natAbs, _+ℤ_, _-ℤ_, _*ℤ_};
 ghost use lib.ListN.{getD};
 ghost use mir.Syntax.{w64};
 ghost use mir.Val.{SFits};
-ghost use Rattle.arith.specs.Steps.{side};
+ghost use Rattle.roots.specs.Steps.{side};
 ghost use Rattle.sheet.specs.Firing.{Wall, Firing};
 ghost use Rattle.sheet.specs.Quantities.{sectionsMost, stagesMost, wallsMost};
 ghost use Rattle.sheet.specs.Shown.{stage as stageOf, section as sectionOf, cell};
@@ -15,7 +15,6 @@ ghost use Rattle.formulas.specs.Figures.{Exact, Figure};
 ghost use Rattle.formulas.specs.Sizes.{cellsMost, placedMost, warmerMost, convectionMost, radiationMost, fluxMost, wallHeatMost, x9Most};
 ghost use Rattle.formulas.specs.Steps.{over};
 ghost use Rattle.surface.specs.Cells.{FourthFits, DifferenceFits, LostFits, RiseIn, HotIn, ReadingIn, WallIn, LostIn, Rooted, EachRooted, AllRooted, Seen};
-use arith::SIDE;
 use formulas::rounding::Quotient;
 use quantity::heat::Joules;
 use quantity::kiln::Area;
@@ -26,6 +25,7 @@ use quantity::sheet::StageCount;
 use quantity::sheet::WallCount;
 use quantity::temperature::Degrees;
 use quantity::temperature::Rise;
+use roots::SIDE;
 use sheet::Reading;
 use sheet::Section;
 use sheet::SectionReadings;
@@ -48,7 +48,7 @@ fn fourth_root(rise: u64) -> u64
     requires { ⌜ rise ≤ warmerMost ⌝ }
     ensures { λ r. ⌜ r ≡ fourthRoot rise ⌝ }
 {
-    arith::floor_root(arith::floor_root(rise * 1_000_000_000_000_000) * 100_000_000)
+    roots::floor_root(roots::floor_root(rise * 1_000_000_000_000_000) * 100_000_000)
 }
 
 // A rise and its fourth root, noted down when it was found beside others.
@@ -94,8 +94,8 @@ fn each_times(x: [u64; SIDE], by: u64, most: u64) -> [u64; SIDE]
 fn fourth_roots(rises: [u64; SIDE]) -> [u64; SIDE]
     ensures { λ r. ⌜ EachRooted rises r ⌝ }
 {
-    let first = arith::floor_roots(each_times(rises, 1_000_000_000_000_000, 4_000), 31);
-    arith::floor_roots(each_times(first, 100_000_000, 2_000_000_000), 29)
+    let first = roots::floor_roots(each_times(rises, 1_000_000_000_000_000, 4_000), 31);
+    roots::floor_roots(each_times(first, 100_000_000, 2_000_000_000), 29)
 }
 
 // The first term of formula 25, A Δ ⁴√Δ, before it is rounded.

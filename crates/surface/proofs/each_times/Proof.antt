@@ -4,8 +4,8 @@ use mathlib.Core.Path.{_≡_, refl}
 use native.Mathlib.Omega.{arith}
 use borrow.Author.Needs.{needs}
 use lib.ListN.{length, getD, length-set}
-use Rattle.arith.specs.Steps.{side}
-use Rattle.arith.proofs.Sides.{set-one}
+use Rattle.roots.specs.Steps.{side}
+use Rattle.roots.proofs.Sides.{set-one}
 use Rattle.surface.proofs.each_times.Statement.{statement}
 use Rattle.surface.proofs.each_times.Tie as tie
 

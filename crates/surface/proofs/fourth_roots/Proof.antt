@@ -6,8 +6,8 @@ use native.Mathlib.Omega.{arith}
 use borrow.Author.Needs.{needs}
 use lib.Dec.{lit<}
 use lib.ListN.{getD}
-use Rattle.arith.specs.Root.{root}
-use Rattle.arith.proofs.Sides.{root-at}
+use Rattle.roots.specs.Root.{root}
+use Rattle.roots.proofs.Sides.{root-at}
 use Rattle.surface.proofs.Terms.{first-root-most}
 use Rattle.surface.proofs.fourth_roots.Statement.{statement}
 use Rattle.surface.proofs.fourth_roots.Tie as tie

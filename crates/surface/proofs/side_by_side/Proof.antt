@@ -4,9 +4,9 @@ use mathlib.Core.Path.{_≡_, refl}
 use native.Mathlib.Omega.{arith}
 use borrow.Author.Needs.{needs}
 use lib.ListN.{length, getD, replicate, length-set}
-use Rattle.arith.specs.Root.{root, rootIn}
-use Rattle.arith.specs.Steps.{side}
-use Rattle.arith.proofs.Sides.{zero-at, set-one}
+use Rattle.roots.specs.Root.{root, rootIn}
+use Rattle.roots.specs.Steps.{side}
+use Rattle.roots.proofs.Sides.{zero-at, set-one}
 use Rattle.surface.specs.declared.Group.{Group}
 use Rattle.surface.specs.Cells.{Rooted, EachRooted, groupsMost, noGroup, AllRooted}
 use Rattle.surface.proofs.side_by_side.Statement.{statement}

@@ -6,7 +6,7 @@ use native.Mathlib.Nat.{mul-le-mul}
 use native.Mathlib.Omega.{arith}
 use borrow.Author.Needs.{needs}
 use lib.ListN.{length}
-use Rattle.arith.specs.Steps.{side}
+use Rattle.roots.specs.Steps.{side}
 use Rattle.sheet.specs.Firing.{Wall}
 use Rattle.sheet.specs.Shown.{cell}
 use Rattle.sheet.specs.Quantities.{sectionsMost, stagesMost}

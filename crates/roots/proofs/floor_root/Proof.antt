@@ -5,10 +5,10 @@ use mathlib.Core.Path.{_≡_}
 use native.Mathlib.Omega.{arith}
 use borrow.Author.Needs.{needs}
 use lib.Count.{leading-le}
-use Rattle.arith.specs.Steps.{Brought}
-use Rattle.arith.proofs.Pairs.{none-brought, highest, one-brought, small, all-brought}
-use Rattle.arith.proofs.floor_root.Statement.{statement}
-use Rattle.arith.proofs.floor_root.Tie as tie
+use Rattle.roots.specs.Steps.{Brought}
+use Rattle.roots.proofs.Pairs.{none-brought, highest, one-brought, small, all-brought}
+use Rattle.roots.proofs.floor_root.Statement.{statement}
+use Rattle.roots.proofs.floor_root.Tie as tie
 
 abbrev Inv-loop : tie.InvT-loop
 Inv-loop n work₀ pairs₀ work pairs = (pairs ≤ 32) × Brought n pairs (work .root) (work .rest)

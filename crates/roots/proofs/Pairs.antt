@@ -6,9 +6,9 @@ use native.Mathlib.Decide.{decLe}
 use native.Mathlib.Omega.{arith}
 use lib.Pow.{pow-mono, shr-shr, shr-lt, field, mod-mod-pow}
 use lib.Count.{leadingZeros, leading-length}
-use Rattle.arith.specs.Root.{root}
-use Rattle.arith.specs.Steps.{Brought, Stepped, Short}
-use Rattle.arith.proofs.RootLaws.{root-is, root-only}
+use Rattle.roots.specs.Root.{root}
+use Rattle.roots.specs.Steps.{Brought, Stepped, Short}
+use Rattle.roots.proofs.RootLaws.{root-is, root-only}
 
 -- above the highest pair that is not 0 there is nothing
 pub none-brought : (n pairs : ℕ) → n < 2 ^ (2 * pairs) → Brought n pairs 0 0

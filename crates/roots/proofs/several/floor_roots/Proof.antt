@@ -5,11 +5,11 @@ use native.Mathlib.Omega.{arith}
 use borrow.Author.Needs.{needs}
 use lib.ListN.{getD}
 use lib.Pow.{pow-mono}
-use Rattle.arith.specs.Steps.{side, EachBelow}
-use Rattle.arith.proofs.Pairs.{none-brought}
-use Rattle.arith.proofs.Sides.{zero-at}
-use Rattle.arith.proofs.roots.floor_roots.Statement.{statement}
-use Rattle.arith.proofs.roots.floor_roots.Tie as tie
+use Rattle.roots.specs.Steps.{side, EachBelow}
+use Rattle.roots.proofs.Pairs.{none-brought}
+use Rattle.roots.proofs.Sides.{zero-at}
+use Rattle.roots.proofs.several.floor_roots.Statement.{statement}
+use Rattle.roots.proofs.several.floor_roots.Tie as tie
 
 all-below : (c : tie.Start) → EachBelow (c .args .n) 31
 all-below c = λ k h.

@@ -4,10 +4,10 @@ use mathlib.Core.Path.{_≡_, refl}
 use native.Mathlib.Omega.{arith}
 use borrow.Author.Needs.{needs}
 use lib.ListN.{length, getD, length-set}
-use Rattle.arith.specs.Steps.{side}
-use Rattle.arith.proofs.Sides.{set-one}
-use Rattle.arith.proofs.roots.halves.Statement.{statement}
-use Rattle.arith.proofs.roots.halves.Tie as tie
+use Rattle.roots.specs.Steps.{side}
+use Rattle.roots.proofs.Sides.{set-one}
+use Rattle.roots.proofs.several.halves.Statement.{statement}
+use Rattle.roots.proofs.several.halves.Tie as tie
 
 abbrev Inv-loop : tie.InvT-loop
 Inv-loop from n r₀ i₀ r i = (i ≤ side) × (length r ≡ side) × ((k : ℕ) → k < i → getD r k 0 ≡ getD n k 0 / 2 ^ from % 2 ^ 32)

@@ -12,7 +12,7 @@ use mir.Val.{Val}
 use denote.Shadow.{shadow}
 use denote.Plain.{UInt}
 use denote.Array.{each}
-use Rattle.arith.specs.Root.{root, rootIn}
+use Rattle.roots.specs.Root.{root, rootIn}
 
 -- the numbers of an array of u64 fit
 pub each-fits : (xs : List ℕ) (us : List Val) → shadow (each ℕ (UInt w64 .own) xs us) → (k : ℕ) → getD xs k 0 < 2 ^ 64

@@ -2,8 +2,8 @@
 ghost use mathlib.Core.Path.{_≡_};
 ghost use mathlib.Core.List.{map};
 ghost use Prim.Native.Nat.{_+_, _*_, _/_, _^_, _≤_, _<_};
-ghost use Rattle.arith.specs.Root.{root};
-ghost use Rattle.arith.specs.Steps.{Stepped, Short, EachBelow, EachBrought, EachShort, EachStepped, EachHalf};
+ghost use Rattle.roots.specs.Root.{root};
+ghost use Rattle.roots.specs.Steps.{Stepped, Short, EachBelow, EachBrought, EachShort, EachStepped, EachHalf};
 use crate::Work;
 use crate::step;
 

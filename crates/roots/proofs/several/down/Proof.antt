@@ -5,10 +5,10 @@ use mathlib.Core.List.{List}
 use native.Mathlib.Omega.{arith}
 use borrow.Author.Needs.{needs}
 use lib.ListN.{getD}
-use Rattle.arith.specs.Steps.{EachBrought, EachHalf, EachStepped}
-use Rattle.arith.proofs.Pairs.{one-brought, short, half-pair}
-use Rattle.arith.proofs.roots.down.Statement.{statement}
-use Rattle.arith.proofs.roots.down.Tie as tie
+use Rattle.roots.specs.Steps.{EachBrought, EachHalf, EachStepped}
+use Rattle.roots.proofs.Pairs.{one-brought, short, half-pair}
+use Rattle.roots.proofs.several.down.Statement.{statement}
+use Rattle.roots.proofs.several.down.Tie as tie
 
 -- whatever the numbers are of which these are halves
 abbrev Inv-loop : tie.InvT-loop

@@ -5,10 +5,10 @@ use mathlib.Core.List.{List}
 use native.Mathlib.Omega.{arith}
 use borrow.Author.Needs.{needs}
 use lib.ListN.{length, getD, length-set}
-use Rattle.arith.specs.Steps.{side, Stepped}
-use Rattle.arith.proofs.Sides.{set-both}
-use Rattle.arith.proofs.roots.steps.Statement.{statement}
-use Rattle.arith.proofs.roots.steps.Tie as tie
+use Rattle.roots.specs.Steps.{side, Stepped}
+use Rattle.roots.proofs.Sides.{set-both}
+use Rattle.roots.proofs.several.steps.Statement.{statement}
+use Rattle.roots.proofs.several.steps.Tie as tie
 
 -- the step of one of them
 abbrev Step : List ℕ → ℕ → List ℕ → List ℕ → ℕ → ℕ → ℕ → Type 0

@@ -6,7 +6,7 @@ use native.Mathlib.Nat.{mul-le-mul, le-refl, le-trans, le-antisymm}
 use native.Mathlib.Decide.{decLe}
 use native.Mathlib.Omega.{arith}
 use lib.Dec.{T, leb, leb→le, nleb→lt}
-use Rattle.arith.specs.Root.{IsRoot, rootIn, root}
+use Rattle.roots.specs.Root.{IsRoot, rootIn, root}
 
 rootIn-is : (fuel n : ℕ) → n ≤ fuel → IsRoot n (rootIn fuel n)
 unfolding rootIn

@@ -6,12 +6,12 @@ use native.Mathlib.Omega.{arith}
 use borrow.Author.Needs.{needs}
 use lib.ListN.{length, getD, length-set, length-map}
 use lib.Seq.{ext-getD}
-use Rattle.arith.specs.Root.{root}
-use Rattle.arith.specs.Steps.{side, Brought}
-use Rattle.arith.proofs.Pairs.{small, last-brought}
-use Rattle.arith.proofs.Sides.{each-fits, set-one, root-at}
-use Rattle.arith.proofs.roots.last.Statement.{statement}
-use Rattle.arith.proofs.roots.last.Tie as tie
+use Rattle.roots.specs.Root.{root}
+use Rattle.roots.specs.Steps.{side, Brought}
+use Rattle.roots.proofs.Pairs.{small, last-brought}
+use Rattle.roots.proofs.Sides.{each-fits, set-one, root-at}
+use Rattle.roots.proofs.several.last.Statement.{statement}
+use Rattle.roots.proofs.several.last.Tie as tie
 
 abbrev Inv-loop : tie.InvT-loop
 Inv-loop n before left r₀ i₀ r i = (i ≤ side) × (length r ≡ side) × ((k : ℕ) → k < i → getD r k 0 ≡ root (getD n k 0))

@@ -1,0 +1,4 @@
+pub mod RootLaws
+pub mod Pairs
+pub mod Sides
+pub mod Examples
