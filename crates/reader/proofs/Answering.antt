@@ -29,8 +29,8 @@ use Rattle.sheet.specs.Blank.{blankSheet}
 use Rattle.walls.specs.Cells.{allRead}
 use Rattle.walls.proofs.Missing.{all-read-is}
 use Rattle.due.specs.declared.Place.{Place}
-use Rattle.reader.specs.declared.all.Lines.{Lines}
-use Rattle.reader.specs.All.{Held, Sized}
+use Rattle.lines.specs.declared.Lines.{Lines}
+use Rattle.lines.specs.All.{Held, Sized}
 use Rattle.reader.specs.declared.whole.Outcome.{Outcome}
 use Rattle.due.specs.Place.{good, refusedAt, Fair, Ready, Stands, Meets, After}
 use Rattle.reader.specs.Whole.{top, lineEnded, bottom, openingAs, gasOf, wholeAs, verdictAs, Judged, Answers}

@@ -24,8 +24,8 @@ use Rattle.document.specs.Reader.{Sheet, Answer, Refused, Good}
 use Rattle.document.specs.Rules.{Every}
 use Rattle.document.specs.Rows.{gasRow, firingOf}
 use Rattle.document.proofs.Cases.{clash}
-use Rattle.reader.specs.declared.all.Lines.{Lines}
-use Rattle.reader.specs.All.{Settled, Blanked, Trimmed}
+use Rattle.lines.specs.declared.Lines.{Lines}
+use Rattle.lines.specs.All.{Settled, Blanked, Trimmed}
 use Rattle.reader.specs.declared.whole.Outcome.{Outcome}
 use Rattle.reader.specs.Whole.{Judged, Answers}
 

@@ -19,8 +19,8 @@ use Rattle.document.specs.Editions.{document}
 use Rattle.document.specs.Rows.{firingOf}
 use Rattle.walls.specs.Cells.{allRead}
 use Rattle.due.specs.declared.Place.{Place}
-use Rattle.reader.specs.declared.all.Lines.{Lines}
-use Rattle.reader.specs.All.{Trimmed}
+use Rattle.lines.specs.declared.Lines.{Lines}
+use Rattle.lines.specs.All.{Trimmed}
 use Rattle.reader.specs.declared.whole.Outcome.{Outcome}
 use Rattle.due.specs.Place.{good, refusedAt}
 use Rattle.sheet.specs.Blank.{blankSheet}

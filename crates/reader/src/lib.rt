@@ -1,12 +1,10 @@
 // From any byte string: the sheet that it is the text of, or the refusal and its line.
-mod all;
-mod ends;
 mod whole;
 
-use crate::all::all_lines;
 use crate::whole::opening;
 use crate::whole::verdict;
-pub use all::Lines;
+use lines::Lines;
+use lines::all_lines;
 pub use whole::Outcome;
 ghost use Rattle.document.specs.Editions.{document};
 ghost use Rattle.document.specs.Reader.{readOf};

@@ -1,6 +1,6 @@
 // The whole sheet: where its reading begins, and the rules that look at all of its lines.
 ghost use mathlib.Core.Path.{_≡_};
-ghost use Rattle.reader.specs.All.{Sized};
+ghost use Rattle.lines.specs.All.{Sized};
 ghost use Rattle.reader.specs.Whole.{openingAs, verdictAs};
 use due::Place;
 use due::refused;

@@ -5,9 +5,9 @@ use mathlib.Core.List.{List, map}
 use lib.ListN.{length, length-map}
 use borrow.Author.Needs.{needs}
 use Rattle.sheet.specs.Quantities.{gases}
-use Rattle.reader.proofs.Held.{lines-after}
-use Rattle.reader.proofs.all.all_lines.Statement.{statement}
-use Rattle.reader.proofs.all.all_lines.Tie as tie
+use Rattle.lines.proofs.Held.{lines-after}
+use Rattle.lines.proofs.all_lines.Statement.{statement}
+use Rattle.lines.proofs.all_lines.Tie as tie
 
 -- the start, from behind the loads
 abbrev start : tie.After-loading-lines → tie.Start

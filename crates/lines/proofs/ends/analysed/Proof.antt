@@ -1,8 +1,8 @@
 -- The two tests are those of `same`. Assumes nothing.
 use borrow.Author.Needs.{needs}
 use borrow.Author.Tests.{le-leb, lt-leb}
-use Rattle.reader.proofs.ends.analysed.Statement.{statement}
-use Rattle.reader.proofs.ends.analysed.Tie as tie
+use Rattle.lines.proofs.ends.analysed.Statement.{statement}
+use Rattle.lines.proofs.ends.analysed.Tie as tie
 
 returns : tie.Need-returns
 returns c = rw (le-leb (c .before .before .before .args .edition .0) 2 (c .before .if1 .taken))

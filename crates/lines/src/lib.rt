@@ -1,7 +1,9 @@
 // All lines of a sheet, from the first to the last.
+mod ends;
+
 ghost use mathlib.Core.Path.{_≡_};
 ghost use Rattle.due.specs.Place.{Ready};
-ghost use Rattle.reader.specs.All.{headOf, LinesRead};
+ghost use Rattle.lines.specs.All.{headOf, LinesRead};
 use crate::ends::analysed;
 use crate::ends::closing_line;
 use crate::ends::edition_line;

@@ -19,7 +19,7 @@ use Rattle.due.specs.declared.Place.{Place}
 use Rattle.head.specs.declared.heading.Heading.{Heading}
 use Rattle.fuel.specs.declared.Fuelling.{Fuelling}
 use Rattle.head.specs.declared.drying.Drying.{Drying}
-use Rattle.reader.specs.declared.all.Lines.{Lines}
+use Rattle.lines.specs.declared.Lines.{Lines}
 use Rattle.due.specs.Place.{After}
 use Rattle.sheet.specs.Blank.{noAnalysis, blankStage, blankSetter, blankPart, blankSection}
 use Rattle.sheet.specs.Quantities.{gases, stagesMost, settersMost, partsMost, sectionsMost}

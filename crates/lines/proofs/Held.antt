@@ -30,8 +30,8 @@ use Rattle.fuel.specs.Fuel.{shares}
 use Rattle.due.specs.declared.Place.{Place}
 use Rattle.due.specs.Place.{After}
 use Rattle.due.proofs.Places.{after-bind, after-weaker}
-use Rattle.reader.specs.declared.ends.EditionLine.{EditionLine}
-use Rattle.reader.specs.declared.ends.ClosingLine.{ClosingLine}
+use Rattle.lines.specs.declared.ends.EditionLine.{EditionLine}
+use Rattle.lines.specs.declared.ends.ClosingLine.{ClosingLine}
 use Rattle.due.proofs.Fills.{filled-most}
 use Rattle.due.proofs.Sequence.{pass-on, one-after}
 use Rattle.head.specs.declared.heading.Heading.{Heading}
@@ -46,7 +46,7 @@ use Rattle.fuel.specs.Fuel.{fuellingSays}
 use Rattle.stages.specs.Stages.{heldBy, itself, stagingSays, StagesRead}
 use Rattle.blocks.specs.Loads.{loadingSays}
 use Rattle.walls.specs.Surfaces.{surfacesSay, Below, SurfacesRead}
-use Rattle.reader.specs.All.{headOf, Settled, Blanked, Held}
+use Rattle.lines.specs.All.{headOf, Settled, Blanked, Held}
 use Rattle.due.specs.Block.{Filled}
 use Rattle.due.proofs.Said.{none-read, line-then, group-then, _then_, lacks-kept}
 
