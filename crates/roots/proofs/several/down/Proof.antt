@@ -1,11 +1,11 @@
 -- Each root is brought as far as one is in `floor_root`'s loop, by pairs that are the half's and so the number's. Assumes nothing.
-use Prim.Native.Nat.{ℕ, _+_, _*_, _-_, _/_, _%_, _^_, _≤_, _<_}
-use mathlib.Core.Path.{_≡_, refl, ap, _∙_}
+use Prim.Native.Nat.{ℕ, _+_, _*_, _-_, _/_, _%_, _≤_}
+use mathlib.Core.Path.{_≡_}
 use mathlib.Core.List.{List}
 use native.Mathlib.Omega.{arith}
 use borrow.Author.Needs.{needs}
 use lib.ListN.{getD}
-use Rattle.roots.specs.Steps.{EachBrought, EachHalf, EachStepped}
+use Rattle.roots.specs.Steps.{EachBrought, EachHalf}
 use Rattle.roots.proofs.Pairs.{one-brought, short, half-pair}
 use Rattle.roots.proofs.several.down.Statement.{statement}
 use Rattle.roots.proofs.several.down.Tie as tie

@@ -1,5 +1,5 @@
 -- Up to i the last pair is brought down in each, and then it is a root. Assumes nothing.
-use Prim.Native.Nat.{ℕ, _*_, _-_, _/_, _%_, _^_, _≤_, _<_}
+use Prim.Native.Nat.{ℕ, _-_, _≤_, _<_}
 use mathlib.Core.Path.{_≡_, refl, sym, _∙_}
 use mathlib.Core.List.{map}
 use native.Mathlib.Omega.{arith}
