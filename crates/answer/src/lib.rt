@@ -1,4 +1,6 @@
 // The answer by its four numbers: a refusal, or a report that is put into a lent slice if it fits; and a refusal as a program prints it.
+#![tactic(auto)]
+
 ghost use Rattle.std.specs.Prelude.{◌≡◌, ◌+◌, ◌<◌, ◌≤◌, ◌^◌, length};
 ghost use Rattle.std.specs.Int.{w64};
 ghost use Rattle.std.proofs.Common.{SFits};

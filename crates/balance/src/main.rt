@@ -2,6 +2,8 @@
 // sheet to answer: nothing is printed, and standard error says so. It also says where what was printed could not be written. Whoever writes a
 // word behind its name hears there how it is used, and nothing is read. The exit status says none of these, for a program of this language has
 // none but 0.
+#![tactic(auto)]
+
 use libc::{STDERR_FILENO, STDOUT_FILENO};
 use sheet::SHEET_MOST;
 

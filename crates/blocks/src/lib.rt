@@ -1,4 +1,6 @@
 // The blocks of setters and parts: a line's quantities, the line, the count line and its rows.
+#![tactic(auto)]
+
 mod parts;
 mod setters;
 

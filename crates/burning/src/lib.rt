@@ -1,4 +1,6 @@
 // The fuel: what its gases come to, and its heat.
+#![tactic(auto)]
+
 pub mod mixture;
 
 ghost use Rattle.std.specs.Prelude.{◌≡◌, ◌^◌, ℤ, pos, ◌+ℤ◌, ◌*ℤ◌};

@@ -14,7 +14,7 @@ pub struct Warmth {
 }
 
 // What a unit of fuel asks and gives: theoretical air in 1e-6 m³, dry flue in 1e-9 m³, vapour in 1e-16/56 kg.
-#[derive(Drop)]
+#[derive(Clone, Copy)]
 pub struct Burning {
     pub air: i64,
     pub dry: i64,
@@ -23,7 +23,7 @@ pub struct Burning {
 
 // A gas of table A.1: c at 0 and at 100 °C in 0.001 kJ/(m³·°C); and for each share of it, in the units of `Burning`, the theoretical air, the
 // dry flue and the vapour.
-#[derive(Drop)]
+#[derive(Clone, Copy)]
 pub struct Kind {
     pub cold: i64,
     pub hot: i64,

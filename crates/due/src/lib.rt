@@ -1,4 +1,6 @@
 // What is due at a place of the sheet: the form of a line, its ranges and its rule, and the place after it, or the refusal.
+#![tactic(auto)]
+
 pub mod stuff;
 
 ghost use Rattle.std.specs.Prelude.{◌≡◌, true, ◌+◌, ◌≤◌, length};
@@ -14,7 +16,7 @@ use sheet::{FIELDS_MOST, Refusal};
 // Where the reading stands: before a line, at a place of the text; or refused, with document 01's number of the refusal, the field that it names
 // and the line that was refused. That number is 0 for as long as nothing is refused.
 // So written for the compiler: docs/DECISIONS.md, "A place is four numbers".
-#[derive(Drop)]
+#[derive(Clone, Copy)]
 pub struct Place {
     pub number: usize,
     pub field: usize,

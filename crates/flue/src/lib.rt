@@ -1,4 +1,6 @@
 // The heat that leaves with the flue gas, stage by stage.
+#![tactic(auto)]
+
 ghost use Rattle.std.specs.Prelude.{◌≡◌, ◌+◌, ◌*◌, ◌^◌, ◌≤◌, ℤ, pos, ◌+ℤ◌, ◌-ℤ◌, ◌*ℤ◌};
 ghost use Rattle.std.specs.Int.{w64};
 ghost use Rattle.std.proofs.Common.{SFits};
@@ -30,7 +32,7 @@ use sheet::{Stage, Stages};
 pub struct DryRate(pub i64);
 
 // Dry flue gas of a stage, in 1e-5 m³.
-#[derive(Drop)]
+#[derive(Clone, Copy)]
 pub struct DryFlue(pub i64);
 
 // Vapour for a unit of fuel, in 1e-9 kg.

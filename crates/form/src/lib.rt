@@ -1,5 +1,7 @@
 // The form of one line of a sheet, judged with care: one thing is asked after the other, in the definition's order, so that the first fault has
 // a name.
+#![tactic(auto)]
+
 ghost use Rattle.std.specs.Prelude.{◌≡◌, ◌≤◌};
 ghost use Rattle.sheet.specs.Quantities.{fields_most};
 ghost use Rattle.document.specs.Schema.{refused, pieces};

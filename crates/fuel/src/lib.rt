@@ -1,4 +1,6 @@
 // The paragraph of the fuel: the lines `fuel` and `gas`.
+#![tactic(auto)]
+
 mod gas;
 
 ghost use Rattle.std.specs.Prelude.{◌≡◌};

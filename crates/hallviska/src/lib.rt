@@ -1,4 +1,6 @@
 // The functions for C, each under its own name: what is marked here, and nothing else, stands in libhallviska.a (include/hallviska.h).
+#![tactic(auto)]
+
 ghost use Rattle.std.specs.Prelude.{◌≡◌, length};
 ghost use Rattle.answer.specs.Answer.{answer_of, buffer_of};
 ghost use Rattle.logger.specs.Mean.{mean_of};

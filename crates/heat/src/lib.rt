@@ -1,4 +1,6 @@
 // The balance of a firing, from a sheet to joules.
+#![tactic(auto)]
+
 ghost use Rattle.std.specs.Prelude.{◌≡◌, ◌+ℤ◌};
 ghost use Rattle.sheet.specs.Firing.{Firing};
 ghost use Rattle.formulas.specs.Formulas.{q1, q2};

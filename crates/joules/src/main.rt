@@ -1,6 +1,8 @@
 // Reads a sheet on standard input and prints its heats in joules, or `refused=NUMBER,LINE,FIELD`. Where standard input cannot be read to its end
 // nothing is printed, and standard error says so, as it does where what was printed could not be written. With a word behind its name it reads
 // nothing, and says there how it is used.
+#![tactic(auto)]
+
 mod program;
 
 use libc::{STDERR_FILENO, STDOUT_FILENO};

@@ -1,4 +1,6 @@
 // The balance of a sheet: its report in a lent slice, or a refusal with its line and its field; for other crates, and as text for a program.
+#![tactic(auto)]
+
 mod program;
 
 ghost use Rattle.std.specs.Prelude.{◌≡◌, length};

@@ -44,7 +44,7 @@ module _ {z : ℤ} (fits : SFits w32 z) where
   widens = cast_fits fits (sfits_widen tt fits)
 
   pub widened : to_z w64 (of_z w64 (to_z w32 (of_z w32 z))) ≡ z
-  widened = cast_is fits (sfits_widen tt fits)
+  widened = cast_is {to = w64} fits (sfits_widen {w = w32} tt fits)
 
 -- So is what is kept in 16.
 module _ {z : ℤ} (fits : SFits w16 z) where
@@ -52,7 +52,7 @@ module _ {z : ℤ} (fits : SFits w16 z) where
   widens16 = cast_fits fits (sfits_widen tt fits)
 
   pub widened16 : to_z w64 (of_z w64 (to_z w16 (of_z w16 z))) ≡ z
-  widened16 = cast_is fits (sfits_widen tt fits)
+  widened16 = cast_is {to = w64} fits (sfits_widen {w = w16} tt fits)
 
 -- What a need is handed of a number that is kept in 32 bits is its bound alone.
 pub held : {z : ℤ} → mag z < 2 ^ hbits w32 → SFits w64 z

@@ -2,11 +2,13 @@
 //
 // The constructors stand in `quantity`, one for each type. This is a crate of its own, so that what its contracts rule out is tried
 // without all of them. `proofs/Laws.antt` has what a constructor's callers may conclude.
+#![tactic(auto)]
+
 ghost use Rattle.std.specs.Prelude.{◌≡◌};
 ghost use Rattle.limits.specs.Checked.{Measured, Counted, first_fault};
 
 // A number as the sheet gives it, before it is known to be a quantity.
-#[derive(Drop)]
+#[derive(Clone, Copy)]
 pub struct Number(pub i64);
 
 // A number within its limits, and the first fault, 0 for none.

@@ -1,4 +1,6 @@
 // All lines of a sheet, from the first to the last.
+#![tactic(auto)]
+
 mod ends;
 
 ghost use Rattle.std.specs.Prelude.{◌≡◌};

@@ -1,6 +1,8 @@
 // Reads a logger's readings on standard input and prints their mean in tenths of a degree, or `refused=NUMBER,READING`. Where standard input
 // cannot be read to its end nothing is printed, and standard error says so, as it does where what was printed could not be written. With a word
 // behind its name it reads nothing, and says there how it is used.
+#![tactic(auto)]
+
 use libc::{STDERR_FILENO, STDOUT_FILENO};
 use logger::BYTES_MOST;
 

@@ -1,4 +1,6 @@
 // Writing lines, numbers and bytes into the part of a lent slice that begins at a place: their text is what crate `text` says it is.
+#![tactic(auto)]
+
 ghost use Rattle.std.specs.Prelude.{◌≡◌, ◌+◌, ◌≤◌, length, nat_abs};
 ghost use Rattle.text.specs.Decimal.{digits, decimal, line};
 ghost use Rattle.pen.specs.Writing.{Written};

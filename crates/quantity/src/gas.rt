@@ -4,7 +4,7 @@ ghost use Rattle.limits.specs.Checked.{Measured};
 use limits::{Number, measured};
 
 // The share of one gas in the fuel, in 0.01 %.
-#[derive(Drop)]
+#[derive(Clone, Copy)]
 pub struct Share(pub i32);
 
 #[derive(Drop)]
@@ -20,7 +20,7 @@ impl Share {
 
     // Checks one of the thirteen shares of the line `gas`.
     pub fn checked(v: Number, fault: usize, field: usize) -> ShareRead
-        ensures* { do ⌜ Measured (← (⟦Share::LEAST⟧).entry) (← (⟦Share::GREATEST⟧).entry) v.0 fault field result.value.0 result.fault ⌝ }
+        ensures { Measured Share.LEAST Share.GREATEST v.0 fault field result.value.0 result.fault }
     {
         let read = measured(v, Share::LEAST, Share::GREATEST, fault, field);
         ShareRead {
@@ -31,7 +31,7 @@ impl Share {
 }
 
 // The moisture X of the air, in 0.0001 kilograms per kilogram.
-#[derive(Drop)]
+#[derive(Clone, Copy)]
 pub struct Moisture(pub i32);
 
 #[derive(Drop)]
@@ -47,7 +47,7 @@ impl Moisture {
 
     // Checks the field of the line `air`.
     pub fn checked(v: Number, fault: usize, field: usize) -> MoistureRead
-        ensures* { do ⌜ Measured (← (⟦Moisture::LEAST⟧).entry) (← (⟦Moisture::GREATEST⟧).entry) v.0 fault field result.value.0 result.fault ⌝ }
+        ensures { Measured Moisture.LEAST Moisture.GREATEST v.0 fault field result.value.0 result.fault }
     {
         let read = measured(v, Moisture::LEAST, Moisture::GREATEST, fault, field);
         MoistureRead {
@@ -58,7 +58,7 @@ impl Moisture {
 }
 
 // The gas that a stage burns, in tenths of a cubic metre.
-#[derive(Drop)]
+#[derive(Clone, Copy)]
 pub struct CubicMetres(pub i32);
 
 #[derive(Drop)]
@@ -74,7 +74,7 @@ impl CubicMetres {
 
     // Checks the gas of a line `stage`.
     pub fn checked(v: Number, fault: usize, field: usize) -> CubicMetresRead
-        ensures* { do ⌜ Measured (← (⟦CubicMetres::LEAST⟧).entry) (← (⟦CubicMetres::GREATEST⟧).entry) v.0 fault field result.value.0 result.fault ⌝ }
+        ensures { Measured CubicMetres.LEAST CubicMetres.GREATEST v.0 fault field result.value.0 result.fault }
     {
         let read = measured(v, CubicMetres::LEAST, CubicMetres::GREATEST, fault, field);
         CubicMetresRead {
@@ -85,7 +85,7 @@ impl CubicMetres {
 }
 
 // The gas that all stages burn, in tenths of a cubic metre.
-#[derive(Drop)]
+#[derive(Clone, Copy)]
 pub struct GasTotal(pub i32);
 
 #[derive(Drop)]
@@ -101,7 +101,7 @@ impl GasTotal {
 
     // Checks the sum of the gas of the lines `stage`.
     pub fn checked(v: Number, fault: usize, field: usize) -> GasTotalRead
-        ensures* { do ⌜ Measured (← (⟦GasTotal::LEAST⟧).entry) (← (⟦GasTotal::GREATEST⟧).entry) v.0 fault field result.value.0 result.fault ⌝ }
+        ensures { Measured GasTotal.LEAST GasTotal.GREATEST v.0 fault field result.value.0 result.fault }
     {
         let read = measured(v, GasTotal::LEAST, GasTotal::GREATEST, fault, field);
         GasTotalRead {
@@ -112,7 +112,7 @@ impl GasTotal {
 }
 
 // Air for each part of theoretical air, in thousandths.
-#[derive(Drop)]
+#[derive(Clone, Copy)]
 pub struct ExcessAir(pub i32);
 
 #[derive(Drop)]
@@ -128,7 +128,7 @@ impl ExcessAir {
 
     // Checks the excess air of a line `stage`.
     pub fn checked(v: Number, fault: usize, field: usize) -> ExcessAirRead
-        ensures* { do ⌜ Measured (← (⟦ExcessAir::LEAST⟧).entry) (← (⟦ExcessAir::GREATEST⟧).entry) v.0 fault field result.value.0 result.fault ⌝ }
+        ensures { Measured ExcessAir.LEAST ExcessAir.GREATEST v.0 fault field result.value.0 result.fault }
     {
         let read = measured(v, ExcessAir::LEAST, ExcessAir::GREATEST, fault, field);
         ExcessAirRead {
@@ -140,7 +140,7 @@ impl ExcessAir {
 
 // Carbon monoxide in the dry flue gas, in 0.01 %.
 // So written for the compiler: docs/DECISIONS.md, "A quantity is kept in 32 bits and counted with in 64".
-#[derive(Drop)]
+#[derive(Clone, Copy)]
 pub struct CarbonMonoxide(pub i16);
 
 #[derive(Drop)]
@@ -156,7 +156,7 @@ impl CarbonMonoxide {
 
     // Checks the carbon monoxide of a line `stage`.
     pub fn checked(v: Number, fault: usize, field: usize) -> CarbonMonoxideRead
-        ensures* { do ⌜ Measured (← (⟦CarbonMonoxide::LEAST⟧).entry) (← (⟦CarbonMonoxide::GREATEST⟧).entry) v.0 fault field result.value.0 result.fault ⌝ }
+        ensures { Measured CarbonMonoxide.LEAST CarbonMonoxide.GREATEST v.0 fault field result.value.0 result.fault }
     {
         let read = measured(
             v,
@@ -174,7 +174,7 @@ impl CarbonMonoxide {
 
 // Carbon dioxide with sulphur dioxide in the dry flue gas, as an analyser takes them together, in 0.01 %.
 // So written for the compiler: docs/DECISIONS.md, "A quantity is kept in 32 bits and counted with in 64".
-#[derive(Drop)]
+#[derive(Clone, Copy)]
 pub struct Dioxides(pub i16);
 
 #[derive(Drop)]
@@ -190,7 +190,7 @@ impl Dioxides {
 
     // Checks the pair of a line `stage` of sheet 2.
     pub fn checked(v: Number, fault: usize, field: usize) -> DioxidesRead
-        ensures* { do ⌜ Measured (← (⟦Dioxides::LEAST⟧).entry) (← (⟦Dioxides::GREATEST⟧).entry) v.0 fault field result.value.0 result.fault ⌝ }
+        ensures { Measured Dioxides.LEAST Dioxides.GREATEST v.0 fault field result.value.0 result.fault }
     {
         let read = measured(v, Dioxides::LEAST, Dioxides::GREATEST, fault, field);
         DioxidesRead {
@@ -202,7 +202,7 @@ impl Dioxides {
 
 // Oxygen in the dry flue gas, in 0.01 %.
 // So written for the compiler: docs/DECISIONS.md, "A quantity is kept in 32 bits and counted with in 64".
-#[derive(Drop)]
+#[derive(Clone, Copy)]
 pub struct Oxygen(pub i16);
 
 #[derive(Drop)]
@@ -218,7 +218,7 @@ impl Oxygen {
 
     // Checks the oxygen of a line `stage` of sheet 2.
     pub fn checked(v: Number, fault: usize, field: usize) -> OxygenRead
-        ensures* { do ⌜ Measured (← (⟦Oxygen::LEAST⟧).entry) (← (⟦Oxygen::GREATEST⟧).entry) v.0 fault field result.value.0 result.fault ⌝ }
+        ensures { Measured Oxygen.LEAST Oxygen.GREATEST v.0 fault field result.value.0 result.fault }
     {
         let read = measured(v, Oxygen::LEAST, Oxygen::GREATEST, fault, field);
         OxygenRead {

@@ -7,7 +7,7 @@ ghost use Rattle.limits.specs.Checked.{Measured};
 use limits::{Number, measured};
 
 // The heat in the fuel, in kilojoules per cubic metre.
-#[derive(Drop)]
+#[derive(Clone, Copy)]
 pub struct HeatingValue(pub i32);
 
 #[derive(Drop)]
@@ -23,7 +23,7 @@ impl HeatingValue {
 
     // Checks the heating value of the line `fuel`.
     pub fn checked(v: Number, fault: usize, field: usize) -> HeatingValueRead
-        ensures* { do ⌜ Measured (← (⟦HeatingValue::LEAST⟧).entry) (← (⟦HeatingValue::GREATEST⟧).entry) v.0 fault field result.value.0 result.fault ⌝ }
+        ensures { Measured HeatingValue.LEAST HeatingValue.GREATEST v.0 fault field result.value.0 result.fault }
     {
         let read = measured(v, HeatingValue::LEAST, HeatingValue::GREATEST, fault, field);
         HeatingValueRead {
@@ -34,7 +34,7 @@ impl HeatingValue {
 }
 
 // The specific heat c, in 0.0001 kilojoules per kilogram and degree.
-#[derive(Drop)]
+#[derive(Clone, Copy)]
 pub struct SpecificHeat(pub i32);
 
 #[derive(Drop)]
@@ -50,7 +50,7 @@ impl SpecificHeat {
 
     // Checks c of a line `ware`, `setter` or `part`.
     pub fn checked(v: Number, fault: usize, field: usize) -> SpecificHeatRead
-        ensures* { do ⌜ Measured (← (⟦SpecificHeat::LEAST⟧).entry) (← (⟦SpecificHeat::GREATEST⟧).entry) v.0 fault field result.value.0 result.fault ⌝ }
+        ensures { Measured SpecificHeat.LEAST SpecificHeat.GREATEST v.0 fault field result.value.0 result.fault }
     {
         let read = measured(v, SpecificHeat::LEAST, SpecificHeat::GREATEST, fault, field);
         SpecificHeatRead {
@@ -61,7 +61,7 @@ impl SpecificHeat {
 }
 
 // Heat, in joules; negative where it goes the other way.
-#[derive(Drop)]
+#[derive(Clone, Copy)]
 pub struct Joules(pub i64);
 
 impl Joules {

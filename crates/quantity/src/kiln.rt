@@ -5,7 +5,7 @@ use crate::sheet::StageCount;
 use limits::{Number, counted, measured};
 
 // A stage by its place among the lines `stage`.
-#[derive(Drop)]
+#[derive(Clone, Copy)]
 pub struct StageNumber(pub usize);
 
 #[derive(Drop)]
@@ -21,7 +21,7 @@ impl StageNumber {
 
     // Checks the stage of a line `wall`.
     pub fn checked(v: Number, fault: usize, field: usize) -> StageNumberRead
-        ensures* { do ⌜ Counted (← (⟦StageNumber::LEAST⟧).entry) (← (⟦StageNumber::GREATEST⟧).entry) v.0 fault field result.value.0 result.fault ⌝ }
+        ensures { Counted StageNumber.LEAST StageNumber.GREATEST v.0 fault field result.value.0 result.fault }
     {
         let read = counted(v, StageNumber::LEAST, StageNumber::GREATEST, fault, field);
         StageNumberRead {
@@ -33,7 +33,7 @@ impl StageNumber {
 
 // How long a stage lasts, in minutes.
 // So written for the compiler: docs/DECISIONS.md, "A quantity is kept in 32 bits and counted with in 64".
-#[derive(Drop)]
+#[derive(Clone, Copy)]
 pub struct Minutes(pub i16);
 
 #[derive(Drop)]
@@ -49,7 +49,7 @@ impl Minutes {
 
     // Checks the minutes of a line `stage`.
     pub fn checked(v: Number, fault: usize, field: usize) -> MinutesRead
-        ensures* { do ⌜ Measured (← (⟦Minutes::LEAST⟧).entry) (← (⟦Minutes::GREATEST⟧).entry) v.0 fault field result.value.0 result.fault ⌝ }
+        ensures { Measured Minutes.LEAST Minutes.GREATEST v.0 fault field result.value.0 result.fault }
     {
         let read = measured(v, Minutes::LEAST, Minutes::GREATEST, fault, field);
         MinutesRead {
@@ -60,7 +60,7 @@ impl Minutes {
 }
 
 // The number that a section goes by.
-#[derive(Drop)]
+#[derive(Clone, Copy)]
 pub struct SectionNumber(pub usize);
 
 #[derive(Drop)]
@@ -76,7 +76,7 @@ impl SectionNumber {
 
     // Checks the section number of a line `section` or `wall`.
     pub fn checked(v: Number, fault: usize, field: usize) -> SectionNumberRead
-        ensures* { do ⌜ Counted (← (⟦SectionNumber::LEAST⟧).entry) (← (⟦SectionNumber::GREATEST⟧).entry) v.0 fault field result.value.0 result.fault ⌝ }
+        ensures { Counted SectionNumber.LEAST SectionNumber.GREATEST v.0 fault field result.value.0 result.fault }
     {
         let read = counted(
             v,
@@ -93,7 +93,7 @@ impl SectionNumber {
 }
 
 // Where a section lies: 1 roof, 2 wall, 3 floor.
-#[derive(Drop)]
+#[derive(Clone, Copy)]
 pub struct SectionPlace(pub usize);
 
 #[derive(Drop)]
@@ -109,7 +109,7 @@ impl SectionPlace {
 
     // Checks the place of a line `section`.
     pub fn checked(v: Number, fault: usize, field: usize) -> SectionPlaceRead
-        ensures* { do ⌜ Counted (← (⟦SectionPlace::LEAST⟧).entry) (← (⟦SectionPlace::GREATEST⟧).entry) v.0 fault field result.value.0 result.fault ⌝ }
+        ensures { Counted SectionPlace.LEAST SectionPlace.GREATEST v.0 fault field result.value.0 result.fault }
     {
         let read = counted(v, SectionPlace::LEAST, SectionPlace::GREATEST, fault, field);
         SectionPlaceRead {
@@ -120,7 +120,7 @@ impl SectionPlace {
 }
 
 // The surface of a section, in 0.01 square metres.
-#[derive(Drop)]
+#[derive(Clone, Copy)]
 pub struct Area(pub i32);
 
 #[derive(Drop)]
@@ -136,7 +136,7 @@ impl Area {
 
     // Checks the area of a line `section`.
     pub fn checked(v: Number, fault: usize, field: usize) -> AreaRead
-        ensures* { do ⌜ Measured (← (⟦Area::LEAST⟧).entry) (← (⟦Area::GREATEST⟧).entry) v.0 fault field result.value.0 result.fault ⌝ }
+        ensures { Measured Area.LEAST Area.GREATEST v.0 fault field result.value.0 result.fault }
     {
         let read = measured(v, Area::LEAST, Area::GREATEST, fault, field);
         AreaRead {
@@ -147,7 +147,7 @@ impl Area {
 }
 
 // A material by its code in table A.2, or 0 where the sheet gives c.
-#[derive(Drop)]
+#[derive(Clone, Copy)]
 pub struct Material(pub u32);
 
 #[derive(Drop)]
@@ -163,7 +163,7 @@ impl Material {
 
     // Checks the material of a line `ware`, `setter` or `part`.
     pub fn checked(v: Number, fault: usize, field: usize) -> MaterialRead
-        ensures* { do ⌜ Counted (← (⟦Material::LEAST⟧).entry) (← (⟦Material::GREATEST⟧).entry) v.0 fault field result.value.0 result.fault ⌝ }
+        ensures { Counted Material.LEAST Material.GREATEST v.0 fault field result.value.0 result.fault }
     {
         let read = counted(v, Material::LEAST, Material::GREATEST, fault, field);
         MaterialRead {

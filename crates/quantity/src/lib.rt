@@ -8,6 +8,8 @@
 //
 // What is measured is kept in 32 bits: who counts with it widens it first (`proofs/Casts.antt`).
 // So written for the compiler: docs/DECISIONS.md, "A quantity is kept in 32 bits and counted with in 64".
+#![tactic(auto)]
+
 pub mod gas;
 pub mod heat;
 pub mod kiln;

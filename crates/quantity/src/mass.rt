@@ -4,7 +4,7 @@ ghost use Rattle.limits.specs.Checked.{Measured};
 use limits::{Number, measured};
 
 // The fired ware of a firing, in tenths of a kilogram.
-#[derive(Drop)]
+#[derive(Clone, Copy)]
 pub struct Product(pub i32);
 
 #[derive(Drop)]
@@ -20,7 +20,7 @@ impl Product {
 
     // Checks the field of the line `product`.
     pub fn checked(v: Number, fault: usize, field: usize) -> ProductRead
-        ensures* { do ⌜ Measured (← (⟦Product::LEAST⟧).entry) (← (⟦Product::GREATEST⟧).entry) v.0 fault field result.value.0 result.fault ⌝ }
+        ensures { Measured Product.LEAST Product.GREATEST v.0 fault field result.value.0 result.fault }
     {
         let read = measured(v, Product::LEAST, Product::GREATEST, fault, field);
         ProductRead {
@@ -31,7 +31,7 @@ impl Product {
 }
 
 // A mass, in tenths of a kilogram.
-#[derive(Drop)]
+#[derive(Clone, Copy)]
 pub struct Kilos(pub i32);
 
 #[derive(Drop)]
@@ -47,7 +47,7 @@ impl Kilos {
 
     // Checks a mass of a line `ware`, `water`, `clay`, `setter` or `part`.
     pub fn checked(v: Number, fault: usize, field: usize) -> KilosRead
-        ensures* { do ⌜ Measured (← (⟦Kilos::LEAST⟧).entry) (← (⟦Kilos::GREATEST⟧).entry) v.0 fault field result.value.0 result.fault ⌝ }
+        ensures { Measured Kilos.LEAST Kilos.GREATEST v.0 fault field result.value.0 result.fault }
     {
         let read = measured(v, Kilos::LEAST, Kilos::GREATEST, fault, field);
         KilosRead {

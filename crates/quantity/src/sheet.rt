@@ -4,7 +4,7 @@ ghost use Rattle.limits.specs.Checked.{Measured, Counted};
 use limits::{Number, counted, measured};
 
 // The edition of the sheet's form, of which there is one.
-#[derive(Drop)]
+#[derive(Clone, Copy)]
 pub struct Edition(pub usize);
 
 #[derive(Drop)]
@@ -20,7 +20,7 @@ impl Edition {
 
     // Checks the field of the line `sheet`.
     pub fn checked(v: Number, fault: usize, field: usize) -> EditionRead
-        ensures* { do ⌜ Counted (← (⟦Edition::LEAST⟧).entry) (← (⟦Edition::GREATEST⟧).entry) v.0 fault field result.value.0 result.fault ⌝ }
+        ensures { Counted Edition.LEAST Edition.GREATEST v.0 fault field result.value.0 result.fault }
     {
         let read = counted(v, Edition::LEAST, Edition::GREATEST, fault, field);
         EditionRead {
@@ -31,7 +31,7 @@ impl Edition {
 }
 
 // The number that a firing goes by.
-#[derive(Drop)]
+#[derive(Clone, Copy)]
 pub struct FiringNumber(pub i32);
 
 #[derive(Drop)]
@@ -47,7 +47,7 @@ impl FiringNumber {
 
     // Checks the field of the line `firing`.
     pub fn checked(v: Number, fault: usize, field: usize) -> FiringNumberRead
-        ensures* { do ⌜ Measured (← (⟦FiringNumber::LEAST⟧).entry) (← (⟦FiringNumber::GREATEST⟧).entry) v.0 fault field result.value.0 result.fault ⌝ }
+        ensures { Measured FiringNumber.LEAST FiringNumber.GREATEST v.0 fault field result.value.0 result.fault }
     {
         let read = measured(v, FiringNumber::LEAST, FiringNumber::GREATEST, fault, field);
         FiringNumberRead {
@@ -58,7 +58,7 @@ impl FiringNumber {
 }
 
 // How many stages a firing has.
-#[derive(Drop)]
+#[derive(Clone, Copy)]
 pub struct StageCount(pub usize);
 
 #[derive(Drop)]
@@ -74,7 +74,7 @@ impl StageCount {
 
     // Checks the field of the line `stages`.
     pub fn checked(v: Number, fault: usize, field: usize) -> StageCountRead
-        ensures* { do ⌜ Counted (← (⟦StageCount::LEAST⟧).entry) (← (⟦StageCount::GREATEST⟧).entry) v.0 fault field result.value.0 result.fault ⌝ }
+        ensures { Counted StageCount.LEAST StageCount.GREATEST v.0 fault field result.value.0 result.fault }
     {
         let read = counted(v, StageCount::LEAST, StageCount::GREATEST, fault, field);
         StageCountRead {
@@ -85,7 +85,7 @@ impl StageCount {
 }
 
 // How many lines `setter` a sheet has.
-#[derive(Drop)]
+#[derive(Clone, Copy)]
 pub struct SetterCount(pub usize);
 
 #[derive(Drop)]
@@ -101,7 +101,7 @@ impl SetterCount {
 
     // Checks the field of the line `setters`.
     pub fn checked(v: Number, fault: usize, field: usize) -> SetterCountRead
-        ensures* { do ⌜ Counted (← (⟦SetterCount::LEAST⟧).entry) (← (⟦SetterCount::GREATEST⟧).entry) v.0 fault field result.value.0 result.fault ⌝ }
+        ensures { Counted SetterCount.LEAST SetterCount.GREATEST v.0 fault field result.value.0 result.fault }
     {
         let read = counted(v, SetterCount::LEAST, SetterCount::GREATEST, fault, field);
         SetterCountRead {
@@ -112,7 +112,7 @@ impl SetterCount {
 }
 
 // How many lines `part` a sheet has.
-#[derive(Drop)]
+#[derive(Clone, Copy)]
 pub struct PartCount(pub usize);
 
 #[derive(Drop)]
@@ -128,7 +128,7 @@ impl PartCount {
 
     // Checks the field of the line `parts`.
     pub fn checked(v: Number, fault: usize, field: usize) -> PartCountRead
-        ensures* { do ⌜ Counted (← (⟦PartCount::LEAST⟧).entry) (← (⟦PartCount::GREATEST⟧).entry) v.0 fault field result.value.0 result.fault ⌝ }
+        ensures { Counted PartCount.LEAST PartCount.GREATEST v.0 fault field result.value.0 result.fault }
     {
         let read = counted(v, PartCount::LEAST, PartCount::GREATEST, fault, field);
         PartCountRead {
@@ -139,7 +139,7 @@ impl PartCount {
 }
 
 // How many sections a kiln has.
-#[derive(Drop)]
+#[derive(Clone, Copy)]
 pub struct SectionCount(pub usize);
 
 #[derive(Drop)]
@@ -155,7 +155,7 @@ impl SectionCount {
 
     // Checks the field of the line `sections`.
     pub fn checked(v: Number, fault: usize, field: usize) -> SectionCountRead
-        ensures* { do ⌜ Counted (← (⟦SectionCount::LEAST⟧).entry) (← (⟦SectionCount::GREATEST⟧).entry) v.0 fault field result.value.0 result.fault ⌝ }
+        ensures { Counted SectionCount.LEAST SectionCount.GREATEST v.0 fault field result.value.0 result.fault }
     {
         let read = counted(v, SectionCount::LEAST, SectionCount::GREATEST, fault, field);
         SectionCountRead {
@@ -182,7 +182,7 @@ impl WallCount {
 
     // Checks the field of the line `walls`.
     pub fn checked(v: Number, fault: usize, field: usize) -> WallCountRead
-        ensures* { do ⌜ Counted (← (⟦WallCount::LEAST⟧).entry) (← (⟦WallCount::GREATEST⟧).entry) v.0 fault field result.value.0 result.fault ⌝ }
+        ensures { Counted WallCount.LEAST WallCount.GREATEST v.0 fault field result.value.0 result.fault }
     {
         let read = counted(v, WallCount::LEAST, WallCount::GREATEST, fault, field);
         WallCountRead {
@@ -209,7 +209,7 @@ impl Closing {
 
     // Checks the field of the line `end`.
     pub fn checked(v: Number, fault: usize, field: usize) -> ClosingRead
-        ensures* { do ⌜ Counted (← (⟦Closing::LEAST⟧).entry) (← (⟦Closing::GREATEST⟧).entry) v.0 fault field result.value.0 result.fault ⌝ }
+        ensures { Counted Closing.LEAST Closing.GREATEST v.0 fault field result.value.0 result.fault }
     {
         let read = counted(v, Closing::LEAST, Closing::GREATEST, fault, field);
         ClosingRead {

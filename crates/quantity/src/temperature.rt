@@ -7,7 +7,7 @@ ghost use Rattle.limits.specs.Checked.{Measured};
 use limits::{Number, measured};
 
 // A temperature, in tenths of a degree Celsius.
-#[derive(Drop)]
+#[derive(Clone, Copy)]
 pub struct Degrees(pub i32);
 
 #[derive(Drop)]
@@ -23,7 +23,7 @@ impl Degrees {
 
     // Checks a temperature of a line `ware`, `setter` or `part`.
     pub fn checked(v: Number, fault: usize, field: usize) -> DegreesRead
-        ensures* { do ⌜ Measured (← (⟦Degrees::LEAST⟧).entry) (← (⟦Degrees::GREATEST⟧).entry) v.0 fault field result.value.0 result.fault ⌝ }
+        ensures { Measured Degrees.LEAST Degrees.GREATEST v.0 fault field result.value.0 result.fault }
     {
         let read = measured(v, Degrees::LEAST, Degrees::GREATEST, fault, field);
         DegreesRead {
@@ -42,7 +42,7 @@ impl Degrees {
 }
 
 // The base temperature t, in tenths of a degree Celsius.
-#[derive(Drop)]
+#[derive(Clone, Copy)]
 pub struct Ambient(pub i32);
 
 #[derive(Drop)]
@@ -58,7 +58,7 @@ impl Ambient {
 
     // Checks the field of the line `ambient`.
     pub fn checked(v: Number, fault: usize, field: usize) -> AmbientRead
-        ensures* { do ⌜ Measured (← (⟦Ambient::LEAST⟧).entry) (← (⟦Ambient::GREATEST⟧).entry) v.0 fault field result.value.0 result.fault ⌝ }
+        ensures { Measured Ambient.LEAST Ambient.GREATEST v.0 fault field result.value.0 result.fault }
     {
         let read = measured(v, Ambient::LEAST, Ambient::GREATEST, fault, field);
         AmbientRead {
@@ -76,7 +76,7 @@ impl Ambient {
 }
 
 // The temperature of the fuel, in tenths of a degree Celsius.
-#[derive(Drop)]
+#[derive(Clone, Copy)]
 pub struct FuelTemperature(pub i32);
 
 #[derive(Drop)]
@@ -92,7 +92,7 @@ impl FuelTemperature {
 
     // Checks the temperature of the line `fuel`.
     pub fn checked(v: Number, fault: usize, field: usize) -> FuelTemperatureRead
-        ensures* { do ⌜ Measured (← (⟦FuelTemperature::LEAST⟧).entry) (← (⟦FuelTemperature::GREATEST⟧).entry) v.0 fault field result.value.0 result.fault ⌝ }
+        ensures { Measured FuelTemperature.LEAST FuelTemperature.GREATEST v.0 fault field result.value.0 result.fault }
     {
         let read = measured(
             v,
@@ -117,7 +117,7 @@ impl FuelTemperature {
 
 // The temperature of the flue gas, in tenths of a degree Celsius.
 // So written for the compiler: docs/DECISIONS.md, "A quantity is kept in 32 bits and counted with in 64".
-#[derive(Drop)]
+#[derive(Clone, Copy)]
 pub struct FlueTemperature(pub i16);
 
 #[derive(Drop)]
@@ -133,7 +133,7 @@ impl FlueTemperature {
 
     // Checks the flue temperature of a line `water` or `stage`.
     pub fn checked(v: Number, fault: usize, field: usize) -> FlueTemperatureRead
-        ensures* { do ⌜ Measured (← (⟦FlueTemperature::LEAST⟧).entry) (← (⟦FlueTemperature::GREATEST⟧).entry) v.0 fault field result.value.0 result.fault ⌝ }
+        ensures { Measured FlueTemperature.LEAST FlueTemperature.GREATEST v.0 fault field result.value.0 result.fault }
     {
         let read = measured(
             v,
@@ -174,7 +174,7 @@ impl AnalysedFlueTemperature {
 
     // Checks the flue temperature of a line `stage` of sheet 2.
     pub fn checked(v: Number, fault: usize, field: usize) -> AnalysedFlueTemperatureRead
-        ensures* { do ⌜ Measured (← (⟦AnalysedFlueTemperature::LEAST⟧).entry) (← (⟦AnalysedFlueTemperature::GREATEST⟧).entry) v.0 fault field result.value.0 result.fault ⌝ }
+        ensures { Measured AnalysedFlueTemperature.LEAST AnalysedFlueTemperature.GREATEST v.0 fault field result.value.0 result.fault }
     {
         let read = measured(
             v,
@@ -199,7 +199,7 @@ impl AnalysedFlueTemperature {
 
 // The temperature of a section's surface, in tenths of a degree Celsius.
 // So written for the compiler: docs/DECISIONS.md, "A quantity is kept in 32 bits and counted with in 64".
-#[derive(Drop)]
+#[derive(Clone, Copy)]
 pub struct SurfaceTemperature(pub i16);
 
 #[derive(Drop)]
@@ -215,7 +215,7 @@ impl SurfaceTemperature {
 
     // Checks the surface of a line `wall`.
     pub fn checked(v: Number, fault: usize, field: usize) -> SurfaceTemperatureRead
-        ensures* { do ⌜ Measured (← (⟦SurfaceTemperature::LEAST⟧).entry) (← (⟦SurfaceTemperature::GREATEST⟧).entry) v.0 fault field result.value.0 result.fault ⌝ }
+        ensures { Measured SurfaceTemperature.LEAST SurfaceTemperature.GREATEST v.0 fault field result.value.0 result.fault }
     {
         let read = measured(
             v,
@@ -248,7 +248,7 @@ impl SurfaceTemperature {
 
 // The temperature of the air near a section, in tenths of a degree Celsius.
 // So written for the compiler: docs/DECISIONS.md, "A quantity is kept in 32 bits and counted with in 64".
-#[derive(Drop)]
+#[derive(Clone, Copy)]
 pub struct NearAir(pub i16);
 
 #[derive(Drop)]
@@ -264,7 +264,7 @@ impl NearAir {
 
     // Checks the air of a line `wall`.
     pub fn checked(v: Number, fault: usize, field: usize) -> NearAirRead
-        ensures* { do ⌜ Measured (← (⟦NearAir::LEAST⟧).entry) (← (⟦NearAir::GREATEST⟧).entry) v.0 fault field result.value.0 result.fault ⌝ }
+        ensures { Measured NearAir.LEAST NearAir.GREATEST v.0 fault field result.value.0 result.fault }
     {
         let read = measured(v, NearAir::LEAST, NearAir::GREATEST, fault, field);
         NearAirRead {

@@ -1,5 +1,7 @@
 // A plain line of a sheet in one pass: its key (`keyed`), and its numbers (`row`). Where anything is not plainly as it should be they say no and
 // name no fault; the crate `form` then reads the line with care.
+#![tactic(auto)]
+
 ghost use Rattle.std.specs.Prelude.{◌≡◌, ◌<◌, ◌≤◌, length, ◌≢◌};
 ghost use Rattle.sheet.specs.Quantities.{fields_most};
 ghost use Rattle.quick.specs.Key.{standing};

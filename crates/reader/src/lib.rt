@@ -1,4 +1,6 @@
 // From any byte string: the sheet that it is the text of, or the refusal and its line.
+#![tactic(auto)]
+
 mod whole;
 
 ghost use Rattle.document.specs.Editions.{document};

@@ -1,4 +1,6 @@
 // The report of a firing: its figures from the joules, how long it is, and its text in a lent slice.
+#![tactic(auto)]
+
 mod joules;
 mod writing;
 

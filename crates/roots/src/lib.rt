@@ -1,4 +1,6 @@
 // The square root cut down to a whole number.
+#![tactic(auto)]
+
 mod several;
 
 ghost use Rattle.std.specs.Prelude.{◌≡◌, ◌*◌, ◌^◌, ◌≤◌, ◌<◌};

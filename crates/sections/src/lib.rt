@@ -1,4 +1,6 @@
 // The sections of the surface, and where one stands by its number, which must not be given twice.
+#![tactic(auto)]
+
 ghost use Rattle.std.specs.Prelude.{◌≡◌, ◌≤◌, length, take};
 ghost use Rattle.std.proofs.Math.Option.{none};
 ghost use Rattle.text.specs.Bytes.{bytes};

@@ -1,4 +1,6 @@
 // A firing as its sheet gives it, line by line, and the reasons for which a sheet is refused.
+#![tactic(auto)]
+
 pub mod blank;
 pub mod block;
 
@@ -24,7 +26,7 @@ pub const FIELDS_MOST: usize = GASES;
 pub const SHEET_MOST: usize = 16_384;
 
 // Why a sheet is refused. A field counts from 1.
-#[derive(Drop)]
+#[derive(Clone, Copy)]
 pub enum Refusal {
     TooLong,
     NoLineFeed,
@@ -46,19 +48,19 @@ pub enum Refusal {
 }
 
 // What a thing is made of; c counts for material 0 only.
-#[derive(Drop)]
+#[derive(Clone, Copy)]
 pub struct Stuff {
     pub material: Material,
     pub c: SpecificHeat,
 }
 
-#[derive(Drop)]
+#[derive(Clone, Copy)]
 pub struct Fuel {
     pub heating: HeatingValue,
     pub temperature: FuelTemperature,
 }
 
-#[derive(Drop)]
+#[derive(Clone, Copy)]
 pub struct Ware {
     pub green: Kilos,
     pub entry: Degrees,
@@ -66,7 +68,7 @@ pub struct Ware {
     pub stuff: Stuff,
 }
 
-#[derive(Drop)]
+#[derive(Clone, Copy)]
 pub struct Water {
     pub adsorbed: Kilos,
     pub crystal: Kilos,
@@ -74,14 +76,14 @@ pub struct Water {
 }
 
 // What an analyser says of the dry flue besides CO. On a sheet without it `read` is false, and the shares are 0.
-#[derive(Drop)]
+#[derive(Clone, Copy)]
 pub struct Analysis {
     pub read: bool,
     pub pair: Dioxides,
     pub oxygen: Oxygen,
 }
 
-#[derive(Drop)]
+#[derive(Clone, Copy)]
 pub struct Stage {
     pub gas: CubicMetres,
     pub excess: ExcessAir,
@@ -91,14 +93,14 @@ pub struct Stage {
     pub minutes: Minutes,
 }
 
-#[derive(Drop)]
+#[derive(Clone, Copy)]
 pub struct Setter {
     pub mass: Kilos,
     pub entry: Degrees,
     pub stuff: Stuff,
 }
 
-#[derive(Drop)]
+#[derive(Clone, Copy)]
 pub struct Part {
     pub mass: Kilos,
     pub stuff: Stuff,
@@ -106,7 +108,7 @@ pub struct Part {
     pub firing: Degrees,
 }
 
-#[derive(Drop)]
+#[derive(Clone, Copy)]
 pub struct Section {
     pub number: SectionNumber,
     pub place: SectionPlace,
@@ -114,7 +116,7 @@ pub struct Section {
 }
 
 // What was measured at a section in a stage, if it was: `read` is 1 then, and else 0.
-#[derive(Drop)]
+#[derive(Clone, Copy)]
 pub struct Reading {
     // A number for the compiler: docs/DECISIONS.md, "A quantity is kept in 32 bits and counted with in 64".
     pub read: u16,
@@ -123,13 +125,13 @@ pub struct Reading {
 }
 
 // What was measured at a section, stage by stage.
-#[derive(Drop)]
+#[derive(Clone, Copy)]
 pub struct SectionReadings {
     pub stages: [Reading; StageCount::GREATEST],
 }
 
 // The lines above the stages.
-#[derive(Drop)]
+#[derive(Clone, Copy)]
 pub struct Head {
     pub edition: Edition,
     pub firing: FiringNumber,
@@ -144,32 +146,32 @@ pub struct Head {
 }
 
 // A block: how many lines it has, and the lines, of which those beyond the count mean nothing.
-#[derive(Drop)]
+#[derive(Clone, Copy)]
 pub struct Stages {
     pub count: StageCount,
     pub lines: [Stage; StageCount::GREATEST],
 }
 
-#[derive(Drop)]
+#[derive(Clone, Copy)]
 pub struct Setters {
     pub count: SetterCount,
     pub lines: [Setter; SetterCount::GREATEST],
 }
 
-#[derive(Drop)]
+#[derive(Clone, Copy)]
 pub struct Parts {
     pub count: PartCount,
     pub lines: [Part; PartCount::GREATEST],
 }
 
-#[derive(Drop)]
+#[derive(Clone, Copy)]
 pub struct Sections {
     pub count: SectionCount,
     pub lines: [Section; SectionCount::GREATEST],
 }
 
 // The readings stand by section and stage: that of the i-th section in the j-th stage at readings[i].stages[j], both from 0.
-#[derive(Drop)]
+#[derive(Clone, Copy)]
 pub struct Sheet {
     pub head: Head,
     pub stages: Stages,

@@ -1,4 +1,6 @@
 // What the programs share: the bytes of standard input, and whether they are all of it.
+#![tactic(auto)]
+
 ghost use Rattle.std.specs.Prelude.{◌≤◌, length};
 
 use libc::STDIN_FILENO;

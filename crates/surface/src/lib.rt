@@ -1,4 +1,6 @@
 // The heat that leaves through the surface, reading by reading.
+#![tactic(auto)]
+
 ghost use Rattle.std.specs.Prelude.{◌≡◌, ℕ, ◌*◌, ◌^◌, ◌≤◌, ◌<◌, ℤ, pos, nat_abs, ◌+ℤ◌, ◌-ℤ◌, ◌*ℤ◌, get_or};
 ghost use Rattle.std.specs.Int.{w64};
 ghost use Rattle.std.proofs.Common.{SFits};
@@ -205,7 +207,7 @@ fn gathered(
 }
 
 // Rises and their fourth roots.
-#[derive(Drop)]
+#[derive(Clone, Copy)]
 struct Group {
     rises: [u64; SIDE],
     roots: [u64; SIDE],

@@ -1,4 +1,6 @@
 // Numbers and lines as text: reading a number in the sheet's form, and finding one's way in a line. Crate `pen` writes them.
+#![tactic(auto)]
+
 mod read;
 mod scan;
 

@@ -1,4 +1,6 @@
 // The readings at the walls, with the sections above them.
+#![tactic(auto)]
+
 mod line;
 pub mod measured;
 mod rows;

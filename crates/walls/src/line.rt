@@ -42,7 +42,7 @@ pub fn wall_count(s: &[u8], p: Place) -> WallCounted
 }
 
 // A wall reading as its line gives it.
-#[derive(Drop)]
+#[derive(Clone, Copy)]
 pub struct Wall {
     pub section: SectionNumber,
     pub stage: StageNumber,

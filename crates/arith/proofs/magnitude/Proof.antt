@@ -38,13 +38,13 @@ not_negative : (z : ℤ) → SFits w64 z → lt_z z (pos 0) ≡ false → T (non
 not_negative (pos n) f t = (tt, record { fits = omega (arith, f.sfits) })
 not_negative (negsuc n) f t = let no : ◌≡◌ {A = ℕ} 0 1 = cc in absurd (omega arith)
 
-below : (c : tie.Then1) → Steps c.before.args.z
+below : (c : tie.Then-z-lt0) → Steps c.before.args.z
 below c =
     let z = c.before.args.z in
     let f = c.before.ranges.z in
-    steps z f (ap (λ (x : ℤ). lt_z x (pos 0)) (sym (to_z-of_z w64 z f)) ∙ c.if1.true)
+    steps z f (ap (λ (x : ℤ). lt_z x (pos 0)) (sym (to_z-of_z w64 z f)) ∙ c.if-z-lt0.true)
 
-out : (c : tie.Then1) → W (pos 0 -ℤ W (W c.before.args.z +ℤ pos 1)) ≡ pos (mag c.before.args.z)
+out : (c : tie.Then-z-lt0) → W (pos 0 -ℤ W (W c.before.args.z +ℤ pos 1)) ≡ pos (mag c.before.args.z)
 out c = ap W (below c).minus ∙ to_z-of_z w64 _ (record { sfits = c.before.ranges.z.sfits })
 
 add-result : tie.Need-overflow_add-result
@@ -56,15 +56,15 @@ sub-result c = rw (below c).minus (record { sfits = c.before.ranges.z.sfits })
 cast-result : tie.Need-overflow_cast-result
 cast-result c = rw (out c) (tt, record { fits = omega (arith, c.before.ranges.z.sfits) })
 
-add-result-2 : tie.Need-overflow-add-result-2
+add-result-2 : tie.Need-overflow_add-result-then-z-lt0
 add-result-2 c = rw (out c) (record { fits = omega (arith, c.before.ranges.z.sfits) })
 
-cast-result-2 : tie.Need-overflow-cast-result-2
+cast-result-2 : tie.Need-overflow_cast-result-else-z-lt0
 cast-result-2 c =
     let e = to_z-of_z w64 c.before.args.z c.before.ranges.z in
-    rw e (not_negative c.before.args.z c.before.ranges.z (ap (λ (x : ℤ). lt_z x (pos 0)) (sym e) ∙ c.if1.false))
+    rw e (not_negative c.before.args.z c.before.ranges.z (ap (λ (x : ℤ). lt_z x (pos 0)) (sym e) ∙ c.if-z-lt0.false))
 
-returns : tie.Need-returns
+returns : tie.Need-returns-then-z-lt0
 returns c = rw (out c) (below c).abs
 
 pub magnitude_spec : {M : Type 1} → statement M

@@ -44,7 +44,7 @@ divides (negsuc k) h f = absurd h.lt
 divisor : (s : tie.Start) → Divides (W s.args.d)
 divisor s = subst Divides (sym (to_z-of_z w64 s.args.d s.ranges.d)) (divides s.args.d s.requires s.ranges.d)
 
-cast-nearest-size : tie.Need-overflow-cast-nearest-size
+cast-nearest-size : tie.Need-overflow_cast-d
 cast-nearest-size c = let k = divisor c.before in (k.plain, record { fits = omega (arith, k.small) })
 
 -- what the two calls give together

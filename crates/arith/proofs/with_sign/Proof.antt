@@ -45,39 +45,39 @@ steps m h =
     }
 
 -- the test of the sign
-below : (c : tie.Then1) → lt_z c.before.args.like (pos 0) ≡ true
-below c = let s = c.before in ap (λ (x : ℤ). lt_z x (pos 0)) (sym (to_z-of_z w64 s.args.like s.ranges.like)) ∙ c.if1.true
+below : (c : tie.Then-like-lt0) → lt_z c.before.args.like (pos 0) ≡ true
+below c = let s = c.before in ap (λ (x : ℤ). lt_z x (pos 0)) (sym (to_z-of_z w64 s.args.like s.ranges.like)) ∙ c.if-like-lt0.true
 
-above : (c : tie.Else1) → lt_z c.before.args.like (pos 0) ≡ false
-above c = let s = c.before in ap (λ (x : ℤ). lt_z x (pos 0)) (sym (to_z-of_z w64 s.args.like s.ranges.like)) ∙ c.if1.false
+above : (c : tie.Else-like-lt0) → lt_z c.before.args.like (pos 0) ≡ false
+above c = let s = c.before in ap (λ (x : ℤ). lt_z x (pos 0)) (sym (to_z-of_z w64 s.args.like s.ranges.like)) ∙ c.if-like-lt0.false
 
 -- a negative number that is not 0
-value : (c : tie.Else2) → let a = c.before.before.args in with_sign a.like a.size ≡ negsuc (a.size - 1)
+value : (c : tie.Else-size-eq0) → let a = c.before.before.args in with_sign a.like a.size ≡ negsuc (a.size - 1)
 value c =
     let a = c.before.before.args in
     let e : a.size ≡ suc (a.size - 1) = omega arith in
     minus a.like a.size (below c.before) ∙ ap (λ (n : ℕ). neg_ℤ (pos n)) e
 
-small : (c : tie.Else2) → Steps (c.before.before.args.size - 1)
+small : (c : tie.Else-size-eq0) → Steps (c.before.before.args.size - 1)
 small c = let s = c.before.before in steps (s.args.size - 1) (subst (SFits w64) (value c) s.requires).sfits
 
-sub-result-3 : tie.Need-overflow-sub-result-3
+sub-result-3 : tie.Need-overflow_sub-result-else-size-eq0-2
 sub-result-3 c = subst (SFits w64) (value c ∙ sym (small c).less) c.before.before.requires
 
 -- one that is not negative
-whole : (c : tie.Else1) → SFits w64 (pos c.before.args.size)
+whole : (c : tie.Else-like-lt0) → SFits w64 (pos c.before.args.size)
 whole c = let s = c.before in subst (SFits w64) (plus s.args.like s.args.size (above c)) s.requires
 
-returns : tie.Need-returns
+returns : tie.Need-returns-then-size-eq0
 returns c =
     let a = c.before.before.args in
     let e : 0 ≡ a.size = omega arith in
     ap (λ (n : ℕ). neg_ℤ (pos n)) e ∙ sym (minus a.like a.size (below c.before))
 
-returns-2 : tie.Need-returns-2
+returns-2 : tie.Need-returns-else-size-eq0
 returns-2 c = to_z-of_z w64 _ (sub-result-3 c) ∙ (small c).less ∙ sym (value c)
 
-returns-3 : tie.Need-returns-3
+returns-3 : tie.Need-returns-else-like-lt0
 returns-3 c =
     let a = c.before.args in
     to_z_pos w64 a.size (whole c).sfits ∙ sym (plus a.like a.size (above c))
@@ -85,4 +85,4 @@ returns-3 c =
 pub with_sign_spec : {M : Type 1} → statement M
 with_sign_spec =
     tie.close
-    (tie.spec (λ c. search rules) (λ c. (small c).ranges) (λ c. (small c).opposite) sub-result-3 whole returns returns-2 returns-3)
+    (tie.spec (λ c. search rules) (λ c. (small c).fits) (λ c. (small c).opposite) sub-result-3 whole returns returns-2 returns-3)

@@ -33,7 +33,7 @@ unfolding in_range
 negative least greatest (pos n) e = absurd (true≢false (sym (leb-zero n) ∙ e))
 negative least greatest (negsuc n) e = refl
 
-cast-n : tie.Need-overflow-cast-n
+cast-n : tie.Need-overflow_cast-n
 cast-n c =
     let a = c.before.before.args in
     let fits : SFits w64 a.v.0 = search rules in
@@ -41,21 +41,21 @@ cast-n c =
     let up : le_z (pos 0) a.v.0 ≡ true = cc in
     rw v ((natural a.v.0 up).nonneg, Fits-nat_abs tt fits)
 
-returns : tie.Need-returns
+returns : tie.Need-returns-then-n-greatest
 returns c =
     let a = c.before.before.before.before.args in
     let fits : SFits w64 a.v.0 = search rules in
     let v = to_z-of_z fits in
     let up : le_z (pos 0) a.v.0 ≡ true = cc in
     let n = natural a.v.0 up in
-    let low = rw v at (le-leb _ _ c.before.if2.true) in
+    let low = rw v at (le-leb _ _ c.before.if-least-n.true) in
     let high : leb (nat_abs a.v.0) a.greatest ≡ true = cc in
     met (rw (n.test _ _, low, high)) (rw v n.size) refl
 
-first-fault-requires : tie.Need-first-fault-requires
+first-fault-requires : tie.Need-first_fault-requires
 first-fault-requires c κs = search rules
 
-returns-2 : tie.Need-returns-2
+returns-2 : tie.Need-returns
 returns-2 c =
     let a = c.before.before.before.args in
     let fits : SFits w64 a.v.0 = search rules in
@@ -67,11 +67,11 @@ returns-2 c =
     let n = natural a.v.0 up in
     ⊎_elim
     (λ u. let high : leb (nat_abs a.v.0) a.greatest ≡ false = cc in rw (n.test _ _, high, and-false))
-    (λ u. let low = rw v at (lt-leb _ _ u.left) in rw (n.test _ _, low))
-    w.1.came)
+    (λ u. let low = rw v at (lt-leb _ _ u.if-least-n.false) in rw (n.test _ _, low))
+    w.else-least-n.branch-raw)
     (λ w. let below : le_z (pos 0) a.v.0 ≡ false = cc in negative _ _ _ below)
-    c.before.if1.branch in
-    missed out refl c.first-fault.ensures
+    c.before.if-given-ge0.branch-raw in
+    missed out refl c.first_fault.ensures
 
 pub counted_spec : {M : Type 1} → statement M
 counted_spec = tie.close (tie.spec cast-n returns first-fault-requires returns-2)

@@ -14,16 +14,16 @@ use Rattle.limits.proofs.Laws.{between, met, missed}
 use Rattle.limits.proofs.measured.Statement.{statement}
 use Rattle.limits.proofs.measured.Tie as tie
 
-cast-if1 : tie.Need-overflow-cast-if1
+cast-if1 : tie.Need-overflow_cast-least
 cast-if1 c = widens c.before.ranges.least
 
-cast-if2 : tie.Need-overflow-cast-if2
+cast-if2 : tie.Need-overflow_cast-greatest
 cast-if2 c = widens c.before.before.ranges.greatest
 
-wide : (c : tie.Then2) → SFits w64 c.before.before.before.args.v.0
+wide : (c : tie.Then-given-greatest) → SFits w64 c.before.before.before.args.v.0
 wide c = search rules
 
-passed : (c : tie.Then2) → let a = c.before.before.before.args in in_range a.least a.greatest a.v.0 ≡ true
+passed : (c : tie.Then-given-greatest) → let a = c.before.before.before.args in in_range a.least a.greatest a.v.0 ≡ true
 unfolding in_range
 passed c =
     let s = c.before.before.before in
@@ -35,21 +35,21 @@ passed c =
     let high : le_z a.v.0 a.greatest ≡ true = cc in
     rw (low, high)
 
-narrow : (c : tie.Then2) → SFits w32 c.before.before.before.args.v.0
+narrow : (c : tie.Then-given-greatest) → SFits w32 c.before.before.before.args.v.0
 narrow c =
     let s = c.before.before.before in
     between-fits s.ranges.least s.ranges.greatest (between (passed c))
 
-cast-t11 : tie.Need-overflow-cast-t11
+cast-t11 : tie.Need-overflow_cast-result
 cast-t11 c = cast_fits (wide c) (narrow c)
 
-returns : tie.Need-returns
+returns : tie.Need-returns-then-given-greatest
 returns c = met (passed c) (cast_is (wide c) (narrow c)) refl
 
-first-fault-requires : tie.Need-first-fault-requires
+first-fault-requires : tie.Need-first_fault-requires
 first-fault-requires c κs = search rules
 
-returns-2 : tie.Need-returns-2
+returns-2 : tie.Need-returns
 unfolding in_range
 returns-2 c =
     let s = c.before.before.before in
@@ -62,8 +62,8 @@ returns-2 c =
     ⊎_elim
     (λ w. let high : le_z a.v.0 a.greatest ≡ false = cc in rw (high, and-false))
     (λ w. let low : le_z a.least a.v.0 ≡ false = cc in rw low)
-    c.before.if1.branch in
-    missed out (to_z-of_z s.ranges.least) c.first-fault.ensures
+    c.before.else-least-given.branch-raw in
+    missed out (to_z-of_z s.ranges.least) c.first_fault.ensures
 
 pub measured_spec : {M : Type 1} → statement M
 measured_spec = tie.close (tie.spec cast-if1 cast-if2 cast-t11 returns first-fault-requires returns-2)

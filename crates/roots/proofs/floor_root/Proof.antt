@@ -10,31 +10,31 @@ use Rattle.roots.proofs.Pairs.{none_brought, highest, one_brought, small, all_br
 use Rattle.roots.proofs.floor_root.Statement.{statement}
 use Rattle.roots.proofs.floor_root.Tie as tie
 
-abbrev invariant-loop : tie.invariant-loop
+abbrev invariant-loop : tie.invariant-loop-pairs
 invariant-loop n work₀ pairs₀ work pairs = (pairs ≤ 32) × Brought n pairs work.root work.rest
 
-abbrev decreases-loop : tie.decreases-loop
+abbrev decreases-loop : tie.decreases-loop-pairs
 decreases-loop n work₀ pairs₀ work pairs = pairs
 
-sub-pairs : tie.Need-overflow-sub-pairs invariant-loop decreases-loop
+sub-pairs : tie.Need-overflow_sub-pairs invariant-loop decreases-loop
 sub-pairs c = omega (arith, leading_le 64 c.args.n)
 
-loop-holds : tie.Need-loop-init invariant-loop decreases-loop
+loop-holds : tie.Need-loop-pairs-init invariant-loop decreases-loop
 loop-holds c = (omega arith, none_brought c.args.n _ (highest c.args.n _ c.ranges.n.fits (omega (arith, leading_le 64 c.args.n))))
 
-step-requires : tie.Need-step-requires invariant-loop decreases-loop
+step-requires : tie.Need-step-work-requires invariant-loop decreases-loop
 step-requires c κs =
-    let l = c.before.loop in
+    let l = c.before.loop-pairs in
     (omega arith, small l.invariant.1 c.before.before.ranges.n.fits, l.invariant.1.least)
 
-loop-again : tie.Need-loop-preserved invariant-loop decreases-loop
+loop-again : tie.Need-loop-pairs-preserved invariant-loop decreases-loop
 loop-again c =
-    let l = c.before.before.loop in
+    let l = c.before.before.loop-pairs in
     let p : l.pairs ≡ l.pairs - 1 + 1 = omega arith in
-    (omega (arith, l.invariant.0), one_brought p l.invariant.1 c.step.ensures)
+    (omega (arith, l.invariant.0), one_brought p l.invariant.1 c.step-work.ensures)
 
 returns : tie.Need-returns invariant-loop decreases-loop
-returns c = all_brought c.loop-test.false c.before.loop.invariant.1
+returns c = all_brought c.loop-pairs-test.false c.before.loop-pairs.invariant.1
 
 pub floor_root_spec : {M : Type 1} → statement M
 floor_root_spec =

@@ -14,33 +14,33 @@ use Rattle.roots.proofs.several.steps.Tie as tie
 abbrev Step : List ℕ → ℕ → List ℕ → List ℕ → ℕ → ℕ → ℕ → Type 0
 Step half pair before left k = Stepped (get_or half k 0 / 2 ^ (2 * pair) % 4) (get_or before k 0) (get_or left k 0)
 
-abbrev invariant-loop : tie.invariant-loop
+abbrev invariant-loop : tie.invariant-loop-i
 invariant-loop pair half before left root₀ rest₀ i₀ root rest i =
     (i ≤ side) × (length root ≡ side) × (length rest ≡ side) × ((k : ℕ) → k < i → Step half pair before left k (get_or root k 0) (get_or rest k 0))
 
-abbrev decreases-loop : tie.decreases-loop
+abbrev decreases-loop : tie.decreases-loop-i
 decreases-loop pair half before left root₀ rest₀ i₀ root rest i = side - i
 
 -- the start, from the loop
-abbrev start : tie.At-loop invariant-loop decreases-loop → tie.Start invariant-loop decreases-loop
+abbrev start : tie.At-loop-i invariant-loop decreases-loop → tie.Start invariant-loop decreases-loop
 start c = c.before.before.before
 
-loop-holds : tie.Need-loop-init invariant-loop decreases-loop
+loop-holds : tie.Need-loop-i-init invariant-loop decreases-loop
 loop-holds c = (omega arith, refl, refl, λ k h. absurd (omega arith))
 
-step-requires : tie.Need-narrow-step-requires invariant-loop decreases-loop
-step-requires c κs = (omega arith, (start c.before).pre.1 c.before.loop.i (omega arith))
+step-requires : tie.Need-narrow_step-work-requires invariant-loop decreases-loop
+step-requires c κs = (omega arith, (start c.before).requires.1 c.before.loop-i.i (omega arith))
 
-loop-again : tie.Need-loop-preserved invariant-loop decreases-loop
+loop-again : tie.Need-loop-i-preserved invariant-loop decreases-loop
 loop-again c =
     let l = c.before.before in
     let a = (start l).args in
-    let Is = Step a.t2 a.pair a.works.root a.works.rest in
-    let more = set_both Is 0 0 l.loop.root l.loop.rest l.loop.i _ _ (omega arith) (omega arith) c.Narrow-step.ensures in
-    (omega arith, simp length-set l.loop.invariant.1, simp length-set l.loop.invariant.2, λ k h. more k (λ d. l.loop.invariant.3 k (omega arith)))
+    let Is = Step a.half a.pair a.works.root a.works.rest in
+    let more = set_both Is 0 0 l.loop-i.root l.loop-i.rest l.loop-i.i _ _ (omega arith) (omega arith) c.narrow_step-work.ensures in
+    (omega arith, simp length-set l.loop-i.invariant.1, simp length-set l.loop-i.invariant.2, λ k h. more k (λ d. l.loop-i.invariant.3 k (omega arith)))
 
 returns : tie.Need-returns invariant-loop decreases-loop
-returns c = λ k h. c.before.loop.invariant.3 k (omega arith)
+returns c = λ k h. c.before.loop-i.invariant.3 k (omega arith)
 
 pub steps_spec : {M : Type 1} → statement M
 steps_spec =
