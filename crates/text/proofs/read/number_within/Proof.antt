@@ -28,10 +28,10 @@ start c = c.before.before.before
 abbrev looked : tie.After-unsigned → tie.After-starts
 looked c = c.before.before.before
 
-signed : (c : tie.Then1) → begins (bytes "-") (start c.before).args.f.now ≡ true
-signed c = sym c.before.starts.ensures ∙ c.if1.true
+signed : (c : tie.Then-starts) → begins (bytes "-") (start c.before).args.f.now ≡ true
+signed c = sym c.before.starts.ensures ∙ c.if-starts.true
 
-some : (c : tie.Then1) → 1 ≤ length (start c.before).args.f.now
+some : (c : tie.Then-starts) → 1 ≤ length (start c.before).args.f.now
 some c = omega (arith, ap length (begins-key (bytes "-") (start c.before).args.f.now (signed c)))
 
 -- what stands behind the sign, and what it makes of the whole
@@ -46,42 +46,42 @@ unfolding number_within
 whole c = rw (signed c.before.before) (ap negated (sym (behind c)))
 
 -- a number read behind the sign has an opposite
-value : (c : tie.After-z) → Turned c.z.given.0.0
+value : (c : tie.In-Value-2) → Turned c.z-1.given.0.0
 value c =
     let read = c.before.before in
     let s = start (looked read) in
-    let z = c.z.given.0.0 in
-    let u = unsigned-text s.args.most (drop 1 s.args.f.now) z (sym (behind read) ∙ c.z.given.1) in
+    let z = c.z-1.given.0.0 in
+    let u = unsigned-text s.args.most (drop 1 s.args.f.now) z (sym (behind read) ∙ c.z-1.given.1) in
     turned z u.0 u.1 (omega (arith, below-most u.0 s.args.most u.3 s.pre))
 
-sub-t16 : tie.Need-overflow-sub-t16
+sub-t16 : tie.Need-overflow_sub-result
 sub-t16 c =
     let v = value c.before.before in
     rw v.minus v.fits
 
-returns : tie.Need-returns
+returns : tie.Need-returns-then-z-gt0
 returns c =
     let p = c.before.before in
-    let z = p.z.given.0.0 in
+    let z = p.z-1.given.0.0 in
     let v = value p in
-    let above : lt_z (pos 0) z ≡ true = ap (lt_z (pos 0)) (sym v.back) ∙ c.if2.true in
-    ap Value (ap W v.minus ∙ to_z-of_z w64 (neg_ℤ z) v.fits) ∙ sym (whole p.before.before ∙ ap negated p.z.given.1 ∙ rw above)
+    let above : lt_z (pos 0) z ≡ true = ap (lt_z (pos 0)) (sym v.back) ∙ c.if-z-gt0.true in
+    ap Value (ap W v.minus ∙ to_z-of_z w64 (neg_ℤ z) v.fits) ∙ sym (whole p.before.before ∙ ap negated p.z-1.given.1 ∙ rw above)
 
-returns-2 : tie.Need-returns-2
+returns-2 : tie.Need-returns-else-z-gt0
 returns-2 c =
     let p = c.before.before in
-    let none : lt_z (pos 0) p.z.given.0.0 ≡ false = ap (lt_z (pos 0)) (sym (value p).back) ∙ c.if2.false in
-    sym (whole p.before.before ∙ ap negated p.z.given.1 ∙ rw none)
+    let none : lt_z (pos 0) p.z-1.given.0.0 ≡ false = ap (lt_z (pos 0)) (sym (value p).back) ∙ c.if-z-gt0.false in
+    sym (whole p.before.before ∙ ap negated p.z-1.given.1 ∙ rw none)
 
-returns-3 : tie.Need-returns-3
-returns-3 c = sym (whole c.before.before ∙ ap negated c.enum_told.given.1)
+returns-3 : tie.Need-returns-in-NotANumber
+returns-3 c = sym (whole c.before.before ∙ ap negated c.enum_told-1.given.1)
 
-returns-4 : tie.Need-returns-4
+returns-4 : tie.Need-returns-else-starts
 unfolding number_within
 returns-4 c =
     let looked = c.before.before in
-    let plain : begins (bytes "-") (start looked).args.f.now ≡ false = sym looked.starts.ensures ∙ c.before.if1.false in
-    rw plain c.unsigned2.ensures
+    let plain : begins (bytes "-") (start looked).args.f.now ≡ false = sym looked.starts.ensures ∙ c.before.if-starts.false in
+    rw plain c.unsigned-else-starts.ensures
 
 pub number_within_spec : {M : Type 1} → statement M
 number_within_spec =

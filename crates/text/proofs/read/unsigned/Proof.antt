@@ -17,16 +17,16 @@ use Rattle.text.proofs.Reading.{read_low, read-high, read-digit, read_end, below
 use Rattle.text.proofs.read.unsigned.Statement.{statement}
 use Rattle.text.proofs.read.unsigned.Tie as tie
 
-abbrev invariant-loop : tie.invariant-loop
+abbrev invariant-loop : tie.invariant-loop-i
 invariant-loop f most n₀ i₀ n i = (digits_read n (drop i f) ≡ unsigned most f) × (n < 10 ^ i) × (i ≤ length f) × (length f ≤ 18)
 
-abbrev decreases-loop : tie.decreases-loop
+abbrev decreases-loop : tie.decreases-loop-i
 decreases-loop f most n₀ i₀ n i = length f - i
 
-abbrev start : tie.Else2 invariant-loop decreases-loop → tie.Start invariant-loop decreases-loop
+abbrev start : tie.Else-most-f invariant-loop decreases-loop → tie.Start invariant-loop decreases-loop
 start c = c.before.before
 
-returns : tie.Need-returns invariant-loop decreases-loop
+returns : tie.Need-returns-then-f-eq0 invariant-loop decreases-loop
 unfolding unsigned
 returns c =
     let a = c.before.args in
@@ -34,29 +34,29 @@ returns c =
     ⊎_elim
     (λ w. rw (le-ltb 0 (length f) (omega arith)))
     (λ w. rw (lt-ltb 0 (length f) (omega arith), lt-leb (length f) a.most (ltb-true _ _ w.1.taken)))
-    c.if1.branch
+    c.then-f-eq0.branch
 
-short : (c : tie.Else2 invariant-loop decreases-loop) → length (start c).args.f.now ≤ (start c).args.most
-short c = ltb-false _ _ c.if2.false
+short : (c : tie.Else-most-f invariant-loop decreases-loop) → length (start c).args.f.now ≤ (start c).args.most
+short c = ltb-false _ _ c.if-most-f.false
 
-returns-2 : tie.Need-returns-2 invariant-loop decreases-loop
+returns-2 : tie.Need-returns-then-f-eq48 invariant-loop decreases-loop
 unfolding unsigned
 returns-2 c =
     let few = c.before.before.before in
     let s = start few in
     let f = s.args.f.now in
-    let zero : eqb (get_or f 0 0) 48 ≡ true = c.if4.true in
+    let zero : eqb (get_or f 0 0) 48 ≡ true = c.if-f-eq48.true in
     rw (lt-ltb 0 (length f) (omega arith), le-leb (length f) s.args.most (short few), lt-ltb 1 (length f) (omega arith), zero)
 
-lead : (c : tie.Joined3 invariant-loop decreases-loop) → leading_zero (start c.before).args.f.now ≡ false
+lead : (c : tie.Joined-else-f-gt1 invariant-loop decreases-loop) → leading_zero (start c.before).args.f.now ≡ false
 lead c =
     let f = (start c.before).args.f.now in
     ⊎_elim
     (λ w. let other : eqb (get_or f 0 0) 48 ≡ false = w.2.left in rw (other, and-false))
     (λ w. rw (le-ltb 1 (length f) w.left))
-    c.if3.branch
+    c.else-f-gt1.branch
 
-loop-holds : tie.Need-loop-init invariant-loop decreases-loop
+loop-holds : tie.Need-loop-i-init invariant-loop decreases-loop
 unfolding unsigned
 loop-holds c =
     let s = start c.before in
@@ -67,47 +67,47 @@ loop-holds c =
       omega (arith, short c.before, s.pre),
     )
 
-returns-3 : tie.Need-returns-3 invariant-loop decreases-loop
+returns-3 : tie.Need-returns-then-b-lt48 invariant-loop decreases-loop
 returns-3 c =
     let p = c.before.before in
-    let l = p.before.loop in
+    let l = p.before.loop-i in
     ⊎_elim
-    (λ w. sym (read_low _ _ p.loop-test.true l.n w.taken) ∙ l.invariant.0)
-    (λ w. sym (read-high _ _ p.loop-test.true l.n (ltb-true _ _ w.1.taken)) ∙ l.invariant.0)
-    c.if5.branch
+    (λ w. sym (read_low _ _ p.loop-i-test.true l.n w.taken) ∙ l.invariant.0)
+    (λ w. sym (read-high _ _ p.loop-i-test.true l.n (ltb-true _ _ w.1.taken)) ∙ l.invariant.0)
+    c.then-b-lt48.branch
 
-small : (c : tie.At-loop invariant-loop decreases-loop) → c.loop.n < 1000000000000000000
-small c = below-most _ _ c.loop.invariant.1 (omega arith)
+small : (c : tie.At-loop-i invariant-loop decreases-loop) → c.loop-i.n < 1000000000000000000
+small c = below-most _ _ c.loop-i.invariant.1 (omega arith)
 
-mul-n : tie.Need-overflow-mul-n invariant-loop decreases-loop
+mul-n : tie.Need-overflow_mul-n invariant-loop decreases-loop
 mul-n c = omega (arith, small c.before.before.before.before)
 
-cast-n : tie.Need-overflow-cast-n invariant-loop decreases-loop
-cast-n c = omega (arith, c.before.before.shared-slice-known2.given c.before.before.before.before.loop.i)
+cast-n : tie.Need-overflow_cast-n invariant-loop decreases-loop
+cast-n c = omega (arith, c.before.before.shared_slice_known-in-loop-i-1.given c.before.before.before.before.loop-i.i)
 
-add-n : tie.Need-overflow-add-n invariant-loop decreases-loop
+add-n : tie.Need-overflow_add-n invariant-loop decreases-loop
 add-n c =
     let p = c.before.before.before.before in
-    omega (arith, small p, c.before.before.shared-slice-known2.given p.loop.i)
+    omega (arith, small p, c.before.before.shared_slice_known-in-loop-i-1.given p.loop-i.i)
 
-loop-again : tie.Need-loop-preserved invariant-loop decreases-loop
+loop-again : tie.Need-loop-i-preserved invariant-loop decreases-loop
 loop-again c =
     let p = c.before.before.before in
-    let l = p.before.loop in
-    let high = ltb-false _ _ c.if6.false in (
-      sym (read-digit _ _ p.loop-test.true l.n c.before.if5.false high) ∙ l.invariant.0,
+    let l = p.before.loop-i in
+    let high = ltb-false _ _ c.if-b-gt57.false in (
+      sym (read-digit _ _ p.loop-i-test.true l.n c.before.if-b-lt48.false high) ∙ l.invariant.0,
       below_more _ _ _ l.invariant.1 (omega (arith, high)),
       omega arith,
       l.invariant.3,
     )
 
-cast-t22 : tie.Need-overflow-cast-t22 invariant-loop decreases-loop
+cast-t22 : tie.Need-overflow_cast-result invariant-loop decreases-loop
 cast-t22 c = record { sfits = omega (arith, small c.before) }
 
-returns-4 : tie.Need-returns-4 invariant-loop decreases-loop
+returns-4 : tie.Need-returns invariant-loop decreases-loop
 returns-4 c =
-    let l = c.before.loop in
-    ap Value (to_z_pos w64 l.n (omega (arith, small c.before))) ∙ sym (read_end _ _ c.loop-test.false l.n) ∙ l.invariant.0
+    let l = c.before.loop-i in
+    ap Value (to_z_pos w64 l.n (omega (arith, small c.before))) ∙ sym (read_end _ _ c.loop-i-test.false l.n) ∙ l.invariant.0
 
 pub unsigned_spec : {M : Type 1} → statement M
 unsigned_spec =

@@ -10,27 +10,27 @@ use Rattle.text.proofs.Scanning.{begins-short, begins-other, begins-same, begins
 use Rattle.text.proofs.scan.starts.Statement.{statement}
 use Rattle.text.proofs.scan.starts.Tie as tie
 
-abbrev invariant-loop : tie.invariant-loop
+abbrev invariant-loop : tie.invariant-loop-i
 invariant-loop s key i₀ i = begins (drop i key) (drop i s) ≡ begins key s
 
-abbrev decreases-loop : tie.decreases-loop
+abbrev decreases-loop : tie.decreases-loop-i
 decreases-loop s key i₀ i = length key - i
 
-returns : tie.Need-returns invariant-loop decreases-loop
+returns : tie.Need-returns-then-s-i invariant-loop decreases-loop
 returns c =
     let p = c.before in
     ⊎_elim
-    (λ w. sym (begins-short _ _ _ p.loop-test.true w.taken) ∙ p.before.loop.invariant)
-    (λ w. sym (begins-other _ _ _ p.loop-test.true w.0.left (eqb-false _ _ (not-true _ w.3.taken))) ∙ p.before.loop.invariant)
-    c.if1.branch
+    (λ w. sym (begins-short _ _ _ p.loop-i-test.true w.taken) ∙ p.before.loop-i.invariant)
+    (λ w. sym (begins-other _ _ _ p.loop-i-test.true w.0.left (eqb-false _ _ (not-true _ w.3.taken))) ∙ p.before.loop-i.invariant)
+    c.then-s-i.branch
 
-loop-again : tie.Need-loop-preserved invariant-loop decreases-loop
+loop-again : tie.Need-loop-i-preserved invariant-loop decreases-loop
 loop-again c =
     let p = c.before.before.before in
-    sym (begins-same _ _ _ p.before.loop-test.true p.if1.false (eqb-true _ _ (not-false _ c.if2.false))) ∙ p.before.before.loop.invariant
+    sym (begins-same _ _ _ p.before.loop-i-test.true p.if-s-i.false (eqb-true _ _ (not-false _ c.if-s-i-2.false))) ∙ p.before.before.loop-i.invariant
 
-returns-2 : tie.Need-returns-2 invariant-loop decreases-loop
-returns-2 c = sym (begins_end _ _ _ c.loop-test.false) ∙ c.before.loop.invariant
+returns-2 : tie.Need-returns invariant-loop decreases-loop
+returns-2 c = sym (begins_end _ _ _ c.loop-i-test.false) ∙ c.before.loop-i.invariant
 
 pub starts_spec : {M : Type 1} → statement M
 starts_spec =

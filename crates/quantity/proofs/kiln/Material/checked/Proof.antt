@@ -5,11 +5,11 @@ use Rattle.limits.proofs.Laws.{count-within}
 use Rattle.quantity.proofs.kiln.Material.checked.Statement.{statement}
 use Rattle.quantity.proofs.kiln.Material.checked.Tie as tie
 
-counted-requires : tie.Need-counted-requires
+counted-requires : tie.Need-counted-read-requires
 counted-requires c κs = search rules
 
-cast-t5 : tie.Need-overflow-cast-t5
-cast-t5 c = record { fits = omega (arith, (count-within c.before.counted.ensures tt).high) }
+cast-t5 : tie.Need-overflow_cast-result
+cast-t5 c = record { fits = omega (arith, (count-within c.before.counted-read.ensures tt).high) }
 
 returns : tie.Need-returns
 returns c = search rules

@@ -8,7 +8,7 @@ use Rattle.limits.proofs.Casts.{narrows, narrowed}
 use Rattle.quantity.proofs.temperature.FlueTemperature.checked.Statement.{statement}
 use Rattle.quantity.proofs.temperature.FlueTemperature.checked.Tie as tie
 
-wide : (c : tie.After-struct-told) → SFits w32 c.before.before.measured.result.value
+wide : (c : tie.After-struct_told-1) → SFits w32 c.before.before.measured-read.result.value
 wide c = search rules
 
 pub checked_spec : {M : Type 1} → statement M
@@ -16,5 +16,5 @@ checked_spec =
     tie.close
     (tie.spec
     (λ c κs. search rules)
-    (λ c. narrows (sfits_lit tt) (sfits_lit tt) (le_z_yes tt) (wide c) c.before.before.measured.ensures)
-    (λ c. narrowed (sfits_lit tt) (sfits_lit tt) (le_z_yes tt) (wide c) c.before.before.measured.ensures))
+    (λ c. narrows (sfits_lit tt) (sfits_lit tt) (le_z_yes tt) (wide c) c.before.before.measured-read.ensures)
+    (λ c. narrowed (sfits_lit tt) (sfits_lit tt) (le_z_yes tt) (wide c) c.before.before.measured-read.ensures))

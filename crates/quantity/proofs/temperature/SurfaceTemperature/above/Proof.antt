@@ -10,7 +10,7 @@ degrees-requires-2 : tie.Need-degrees-requires-2
 degrees-requires-2 c κs = search rules
 
 above-requires : tie.Need-above-requires
-above-requires c κs = rw (c.before.degrees.ensures, c.degrees2.ensures) c.before.before.requires
+above-requires c κs = rw (c.before.degrees.ensures, c.degrees-2.ensures) c.before.before.requires
 
 returns : tie.Need-returns
 returns c = cc

@@ -7,7 +7,7 @@ use Rattle.limits.proofs.Casts.{cast_fits, cast_is}
 use Rattle.quantity.proofs.temperature.SurfaceTemperature.degrees.Statement.{statement}
 use Rattle.quantity.proofs.temperature.SurfaceTemperature.degrees.Tie as tie
 
-narrow : (c : tie.After-struct-told) → SFits w16 c.before.before.args.self.0
+narrow : (c : tie.After-struct_told-1) → SFits w16 c.before.before.args.self.0
 narrow c = search rules
 
 pub degrees_spec : {M : Type 1} → statement M
