@@ -10,7 +10,7 @@ returns c =
     let setter = part.before in
     let stage = setter.before in
     let head = stage.before in
-    rw (c.section-readings.ensures, section.section.ensures, part.part.ensures, setter.setter.ensures, stage.stage.ensures, head.head.ensures)
+    rw (c.section_readings.ensures, section.section.ensures, part.part.ensures, setter.setter.ensures, stage.stage.ensures, head.head.ensures)
 
 pub sheet_spec : {M : Type 1} → statement M
 sheet_spec =

@@ -3,7 +3,7 @@ use borrow.Author.Rules.{rules}
 use Rattle.sheet.proofs.blank.stage.Statement.{statement}
 use Rattle.sheet.proofs.blank.stage.Tie as tie
 
-cast-t6 : tie.Need-overflow-cast-t6
+cast-t6 : tie.Need-overflow_cast-result
 cast-t6 c = search rules
 
 returns : tie.Need-returns

@@ -23,7 +23,7 @@ use Rattle.text.proofs.read.number_within.Tie as tie
 
 -- the places that others are reached from: the start, and where the sign is looked for
 abbrev start : tie.After-starts → tie.Start
-start c = c.before.before.before
+start c = c.before.before.before.before
 
 abbrev looked : tie.After-unsigned → tie.After-starts
 looked c = c.before.before.before
@@ -46,35 +46,35 @@ unfolding number_within
 whole c = rw (signed c.before.before) (ap negated (sym (behind c)))
 
 -- a number read behind the sign has an opposite
-value : (c : tie.In-Value-2) → Turned c.z-1.given.0.0
+value : (c : tie.In-Value) → Turned c.in-Value.z
 value c =
-    let read = c.before.before in
+    let read = c.before in
     let s = start (looked read) in
-    let z = c.z-1.given.0.0 in
-    let u = unsigned-text s.args.most (drop 1 s.args.f.now) z (sym (behind read) ∙ c.z-1.given.1) in
-    turned z u.0 u.1 (omega (arith, below-most u.0 s.args.most u.3 s.pre))
+    let z = c.in-Value.z in
+    let u = unsigned-text s.args.most (drop 1 s.args.f.now) z (sym (behind read) ∙ c.in-Value.is) in
+    turned z u.0 u.1 (omega (arith, below-most u.0 s.args.most u.3 s.requires))
 
 sub-t16 : tie.Need-overflow_sub-result
 sub-t16 c =
-    let v = value c.before.before in
+    let v = value c.before in
     rw v.minus v.fits
 
 returns : tie.Need-returns-then-z-gt0
 returns c =
-    let p = c.before.before in
-    let z = p.z-1.given.0.0 in
+    let p = c.before in
+    let z = p.in-Value.z in
     let v = value p in
     let above : lt_z (pos 0) z ≡ true = ap (lt_z (pos 0)) (sym v.back) ∙ c.if-z-gt0.true in
-    ap Value (ap W v.minus ∙ to_z-of_z w64 (neg_ℤ z) v.fits) ∙ sym (whole p.before.before ∙ ap negated p.z-1.given.1 ∙ rw above)
+    ap Value (ap W v.minus ∙ to_z-of_z w64 (neg_ℤ z) v.fits) ∙ sym (whole p.before ∙ ap negated p.in-Value.is ∙ rw above)
 
 returns-2 : tie.Need-returns-else-z-gt0
 returns-2 c =
-    let p = c.before.before in
-    let none : lt_z (pos 0) p.z-1.given.0.0 ≡ false = ap (lt_z (pos 0)) (sym (value p).back) ∙ c.if-z-gt0.false in
-    sym (whole p.before.before ∙ ap negated p.z-1.given.1 ∙ rw none)
+    let p = c.before in
+    let none : lt_z (pos 0) p.in-Value.z ≡ false = ap (lt_z (pos 0)) (sym (value p).back) ∙ c.if-z-gt0.false in
+    sym (whole p.before ∙ ap negated p.in-Value.is ∙ rw none)
 
 returns-3 : tie.Need-returns-in-NotANumber
-returns-3 c = sym (whole c.before.before ∙ ap negated c.enum_told-1.given.1)
+returns-3 c = sym (whole c.before ∙ ap negated c.in-NotANumber.is)
 
 returns-4 : tie.Need-returns-else-starts
 unfolding number_within
@@ -88,16 +88,14 @@ number_within_spec =
     tie.close
     (tie.spec
     (λ c. search rules)
-    (λ c κs. search rules)
     (λ c. omega (arith, some c))
     (λ c. omega (arith, some c))
     (λ c. search rules)
-    (λ c κs. search rules)
+    (λ c. search rules)
     (λ c. search rules)
     sub-t16
     returns
-    (λ c. search rules)
-    (λ c κs. search rules)
     returns-2
     returns-3
+    (λ c. search rules)
     returns-4)

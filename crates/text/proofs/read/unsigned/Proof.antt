@@ -33,11 +33,11 @@ returns c =
     let f = a.f.now in
     ⊎_elim
     (λ w. rw (le-ltb 0 (length f) (omega arith)))
-    (λ w. rw (lt-ltb 0 (length f) (omega arith), lt-leb (length f) a.most (ltb-true _ _ w.1.taken)))
-    c.then-f-eq0.branch
+    (λ w. rw (lt-ltb 0 (length f) (omega arith), lt-leb (length f) a.most w.if-most-f.true))
+    c.then-f-eq0.branch-raw
 
 short : (c : tie.Else-most-f invariant-loop decreases-loop) → length (start c).args.f.now ≤ (start c).args.most
-short c = ltb-false _ _ c.if-most-f.false
+short c = c.if-most-f.false
 
 returns-2 : tie.Need-returns-then-f-eq48 invariant-loop decreases-loop
 unfolding unsigned
@@ -45,16 +45,16 @@ returns-2 c =
     let few = c.before.before.before in
     let s = start few in
     let f = s.args.f.now in
-    let zero : eqb (get_or f 0 0) 48 ≡ true = c.if-f-eq48.true in
+    let zero : eqb (get_or f 0 0) 48 ≡ true = c.if-f-eq48.true-raw in
     rw (lt-ltb 0 (length f) (omega arith), le-leb (length f) s.args.most (short few), lt-ltb 1 (length f) (omega arith), zero)
 
 lead : (c : tie.Joined-else-f-gt1 invariant-loop decreases-loop) → leading_zero (start c.before).args.f.now ≡ false
 lead c =
     let f = (start c.before).args.f.now in
     ⊎_elim
-    (λ w. let other : eqb (get_or f 0 0) 48 ≡ false = w.2.left in rw (other, and-false))
-    (λ w. rw (le-ltb 1 (length f) w.left))
-    c.else-f-gt1.branch
+    (λ w. let other : eqb (get_or f 0 0) 48 ≡ false = w.if-f-eq48.false-raw in rw (other, and-false))
+    (λ w. rw (le-ltb 1 (length f) w.if-f-gt1.false))
+    c.else-f-gt1.branch-raw
 
 loop-holds : tie.Need-loop-i-init invariant-loop decreases-loop
 unfolding unsigned
@@ -64,7 +64,7 @@ loop-holds c =
       rw (lt-ltb 0 (length f) (omega arith), le-leb (length f) s.args.most (short c.before), lead c),
       omega arith,
       omega arith,
-      omega (arith, short c.before, s.pre),
+      omega (arith, short c.before, s.requires),
     )
 
 returns-3 : tie.Need-returns-then-b-lt48 invariant-loop decreases-loop
@@ -72,9 +72,9 @@ returns-3 c =
     let p = c.before.before in
     let l = p.before.loop-i in
     ⊎_elim
-    (λ w. sym (read_low _ _ p.loop-i-test.true l.n w.taken) ∙ l.invariant.0)
-    (λ w. sym (read-high _ _ p.loop-i-test.true l.n (ltb-true _ _ w.1.taken)) ∙ l.invariant.0)
-    c.then-b-lt48.branch
+    (λ w. sym (read_low _ _ p.loop-i-test.true l.n w.if-b-lt48.true) ∙ l.invariant.0)
+    (λ w. sym (read-high _ _ p.loop-i-test.true l.n w.if-b-gt57.true) ∙ l.invariant.0)
+    c.then-b-lt48.branch-raw
 
 small : (c : tie.At-loop-i invariant-loop decreases-loop) → c.loop-i.n < 1000000000000000000
 small c = below-most _ _ c.loop-i.invariant.1 (omega arith)
@@ -94,7 +94,7 @@ loop-again : tie.Need-loop-i-preserved invariant-loop decreases-loop
 loop-again c =
     let p = c.before.before.before in
     let l = p.before.loop-i in
-    let high = ltb-false _ _ c.if-b-gt57.false in (
+    let high = c.if-b-gt57.false in (
       sym (read-digit _ _ p.loop-i-test.true l.n c.before.if-b-lt48.false high) ∙ l.invariant.0,
       below_more _ _ _ l.invariant.1 (omega (arith, high)),
       omega arith,

@@ -23,9 +23,9 @@ loop-again c =
     let i = p.before.loop-i.i in
     let b = p.before.before.args.c in
     ⊎_elim
-    (λ w. omega (arith, count_hit b s i p.loop-i-test.true w.0.taken))
-    (λ w. omega (arith, count_miss b s i p.loop-i-test.true w.0.left))
-    c.if-s-i.branch
+    (λ w. omega (arith, count_hit b s i p.loop-i-test.true w.if-s-i.true))
+    (λ w. omega (arith, count_miss b s i p.loop-i-test.true w.if-s-i.false))
+    c.if-s-i.branch-raw
 
 returns : tie.Need-returns invariant-loop decreases-loop
 returns c =

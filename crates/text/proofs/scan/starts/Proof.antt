@@ -20,14 +20,14 @@ returns : tie.Need-returns-then-s-i invariant-loop decreases-loop
 returns c =
     let p = c.before in
     ⊎_elim
-    (λ w. sym (begins-short _ _ _ p.loop-i-test.true w.taken) ∙ p.before.loop-i.invariant)
-    (λ w. sym (begins-other _ _ _ p.loop-i-test.true w.0.left (eqb-false _ _ (not-true _ w.3.taken))) ∙ p.before.loop-i.invariant)
-    c.then-s-i.branch
+    (λ w. sym (begins-short _ _ _ p.loop-i-test.true w.if-s-i.true) ∙ p.before.loop-i.invariant)
+    (λ w. sym (begins-other _ _ _ p.loop-i-test.true w.if-s-i.false w.if-s-i-2.true) ∙ p.before.loop-i.invariant)
+    c.then-s-i.branch-raw
 
 loop-again : tie.Need-loop-i-preserved invariant-loop decreases-loop
 loop-again c =
     let p = c.before.before.before in
-    sym (begins-same _ _ _ p.before.loop-i-test.true p.if-s-i.false (eqb-true _ _ (not-false _ c.if-s-i-2.false))) ∙ p.before.before.loop-i.invariant
+    sym (begins-same _ _ _ p.before.loop-i-test.true p.if-s-i.false c.if-s-i-2.false) ∙ p.before.before.loop-i.invariant
 
 returns-2 : tie.Need-returns invariant-loop decreases-loop
 returns-2 c = sym (begins_end _ _ _ c.loop-i-test.false) ∙ c.before.loop-i.invariant
