@@ -95,7 +95,8 @@ number_within_spec =
     (λ c. search rules)
     sub-t16
     returns
+    (λ c. search rules)
+    (λ c. search rules)
     returns-2
     returns-3
-    (λ c. search rules)
     returns-4)
