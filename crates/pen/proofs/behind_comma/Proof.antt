@@ -15,22 +15,22 @@ use Rattle.pen.proofs.behind_comma.Statement.{statement}
 use Rattle.pen.proofs.behind_comma.Tie as tie
 
 -- the start, from behind the comma
-abbrev start : tie.After-bytes-at → tie.Start
+abbrev start : tie.After-bytes_at-behind → tie.Start
 start c = c.before.before.before.before
 
-number-at-requires : tie.Need-number-at-requires
+number-at-requires : tie.Need-number_at-requires
 number-at-requires c κs =
     let comma = c.before.before.before in
     let s = start comma in
     let e = same s.args.number s.fits.number.fits in
-    rw e (omega (arith, s.pre, comma.bytes-at.ensures.ends, comma.bytes-at.auto.0))
+    rw e (omega (arith, s.pre, comma.bytes_at-behind.ensures.ends, comma.bytes_at-behind.auto.0))
 
 returns : tie.Need-returns
 returns c =
     let n = c.before.before in
     let comma = n.before.before.before.before in
     let s = start comma in
-    let both = next comma.bytes-at.ensures n.number_at.ensures in
+    let both = next comma.bytes_at-behind.ensures n.number_at.ensures in
     subst (λ (z : ℤ). Written s.args.at (bytes "," ++ decimal z) s.args.out.now n.number_at.new.0 n.number_at.result)
     (same s.args.number s.fits.number.fits) both
 

@@ -11,17 +11,17 @@ use Rattle.text.proofs.Decimal.{length_digits, digits_above, leads}
 use Rattle.pen.proofs.digit_count.Statement.{statement}
 use Rattle.pen.proofs.digit_count.Tie as tie
 
-abbrev invariant-loop : tie.invariant-loop
+abbrev invariant-loop : tie.invariant-loop-power
 invariant-loop n most k₀ power₀ k power = (power * 10 ≡ 10 ^ k) × (k ≤ length (digits n))
 
-abbrev decreases-loop : tie.decreases-loop
+abbrev decreases-loop : tie.decreases-loop-power
 decreases-loop n most k₀ power₀ k power = length (digits n) - k
 
 -- where ten times `power` is not above the number, it has a digit more, and else it has none
-more : (c : tie.In-loop invariant-loop decreases-loop) → c.before.loop.k < length (digits c.before.before.args.n)
+more : (c : tie.In-loop-power invariant-loop decreases-loop) → c.before.loop-power.k < length (digits c.before.before.args.n)
 more c =
     let n = c.before.before.args.n in
-    let l = c.before.loop in
+    let l = c.before.loop-power in
     let h : l.power * 10 ≤ n = omega arith in
     digits_above l.k n (rw (← l.invariant.0) h)
 
@@ -29,24 +29,24 @@ no_more : (n k power : ℕ) → power * 10 ≡ 10 ^ k → n < power * 10 → len
 no_more n zero power e h = absurd (omega arith)
 no_more n (suc k) power e h = length_digits k n (rw (← e) h)
 
-loop-holds : tie.Need-loop-init invariant-loop decreases-loop
+loop-holds : tie.Need-loop-power-init invariant-loop decreases-loop
 loop-holds c = (refl, (leads c.args.n).some)
 
-mul_power : tie.Need-overflow-mul-power invariant-loop decreases-loop
+mul_power : tie.Need-overflow_mul-power invariant-loop decreases-loop
 mul_power c = omega arith
 
-add-k : tie.Need-overflow-add-k invariant-loop decreases-loop
+add-k : tie.Need-overflow_add-k invariant-loop decreases-loop
 add-k c = omega (arith, more c, length_digits 19 c.before.before.args.n (omega arith))
 
-loop-less : tie.Need-loop-smaller invariant-loop decreases-loop
+loop-less : tie.Need-loop-power-smaller invariant-loop decreases-loop
 loop-less c = omega (arith, more c)
 
-loop-again : tie.Need-loop-preserved invariant-loop decreases-loop
-loop-again c = (rw (add-one, pow-suc, c.before.loop.invariant.0), omega (arith, more c))
+loop-again : tie.Need-loop-power-preserved invariant-loop decreases-loop
+loop-again c = (rw (add-one, pow-suc, c.before.loop-power.invariant.0), omega (arith, more c))
 
 returns : tie.Need-returns invariant-loop decreases-loop
 returns c =
-    let l = c.before.loop in
+    let l = c.before.loop-power in
     omega (arith, no_more c.before.before.args.n l.k l.power l.invariant.0 (omega arith))
 
 pub digit_count_spec : {M : Type 1} → statement M

@@ -15,20 +15,20 @@ use Rattle.pen.proofs.line_at.Tie as tie
 same : (s : tie.Start) → length (line s.args.key.now (W s.args.z)) ≡ length (line s.args.key.now s.args.z)
 same s = rw (to_z-of_z w64 s.args.z s.ranges.z)
 
-put-line-requires : tie.Need-put-line-requires
+put-line-requires : tie.Need-put_line-requires
 put-line-requires c κs = let start = c.before.before.before in omega (arith, same start, start.requires)
 
-add-result : tie.Need-overflow-add-result
+add-result : tie.Need-overflow_add-result
 add-result c =
     let put = c.before.before in
     let start = put.before.before.before.before in
-    omega (arith, same start, start.requires, put.put-line.ensures.ends)
+    omega (arith, same start, start.requires, put.put_line.ensures.ends)
 
 returns : tie.Need-returns
 returns c =
     let put = c.before.before in
     let start = put.before.before.before.before in
-    in_part (rw (to_z-of_z w64 start.args.z start.ranges.z) at put.put-line.ensures)
+    in_part (rw (to_z-of_z w64 start.args.z start.ranges.z) at put.put_line.ensures)
 
 pub line_at_spec : {M : Type 1} → statement M
 line_at_spec =

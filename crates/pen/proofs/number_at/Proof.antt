@@ -12,39 +12,39 @@ use Rattle.pen.proofs.Writing.{next}
 use Rattle.pen.proofs.number_at.Statement.{statement}
 use Rattle.pen.proofs.number_at.Tie as tie
 
-abbrev start : tie.After-magnitude → tie.Start
+abbrev start : tie.After-magnitude-n → tie.Start
 start c = c.before.before
 
-minus : (c : tie.Then1) → decimal (start c.before).args.z ≡ bytes "-" ++ digits c.before.magnitude.result
-minus c = minus-text _ _ (start c.before).ranges.z c.before.magnitude.ensures c.if1.true
+minus : (c : tie.Then-z-lt0) → decimal (start c.before).args.z ≡ bytes "-" ++ digits c.before.magnitude-n.result
+minus c = minus-text _ _ (start c.before).ranges.z c.before.magnitude-n.ensures c.if-z-lt0.true
 
-plain : (c : tie.Else1) → decimal (start c.before).args.z ≡ digits c.before.magnitude.result
-plain c = plain-text _ _ (start c.before).ranges.z c.before.magnitude.ensures c.if1.false
+plain : (c : tie.Else-z-lt0) → decimal (start c.before).args.z ≡ digits c.before.magnitude-n.result
+plain c = plain-text _ _ (start c.before).ranges.z c.before.magnitude-n.ensures c.if-z-lt0.false
 
-bytes-at-requires : tie.Need-bytes-at-requires
+bytes-at-requires : tie.Need-bytes_at-next-requires
 bytes-at-requires c κs = let below = c.before.before in omega (arith, ap length (minus below), (start below.before).requires)
 
-digits-at-requires : tie.Need-digits-at-requires
+digits-at-requires : tie.Need-digits_at-requires
 digits-at-requires c κs =
     let sign = c.before.before.before in
     let below = sign.before.before.before in
-    omega (arith, ap length (minus below), (start below.before).requires, sign.bytes-at.ensures.ends, sign.bytes-at.auto.0)
+    omega (arith, ap length (minus below), (start below.before).requires, sign.bytes_at-next.ensures.ends, sign.bytes_at-next.auto.0)
 
-returns : tie.Need-returns
+returns : tie.Need-returns-then-z-lt0
 returns c =
     let put = c.before.before in
     let sign = put.before.before.before.before in
     let below = sign.before.before.before in
-    rw (minus below) (next sign.bytes-at.ensures put.digits-at.ensures)
+    rw (minus below) (next sign.bytes_at-next.ensures put.digits_at.ensures)
 
-digits-at-requires-2 : tie.Need-digits-at-requires-2
+digits-at-requires-2 : tie.Need-digits_at-requires-2
 digits-at-requires-2 c κs = let above = c.before in omega (arith, ap length (plain above), (start above.before).requires)
 
-returns-2 : tie.Need-returns-2
+returns-2 : tie.Need-returns
 returns-2 c =
     let put = c.before.before in
     let above = put.before.before in
-    rw (plain above) put.digits-at2.ensures
+    rw (plain above) put.digits_at-2.ensures
 
 pub number_at_spec : {M : Type 1} → statement M
 number_at_spec =

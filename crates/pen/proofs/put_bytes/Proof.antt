@@ -12,33 +12,33 @@ use Rattle.pen.proofs.Writing.{begun, next, one_byte}
 use Rattle.pen.proofs.put_bytes.Statement.{statement}
 use Rattle.pen.proofs.put_bytes.Tie as tie
 
-abbrev invariant-loop : tie.invariant-loop
+abbrev invariant-loop : tie.invariant-loop-i
 invariant-loop out₀ src i₀ out i = (i ≤ length src) × Written 0 (take i src) out₀ out i × (length out ≡ length out₀)
 
-abbrev decreases-loop : tie.decreases-loop
+abbrev decreases-loop : tie.decreases-loop-i
 decreases-loop out₀ src i₀ out i = length src - i
 
-abbrev start : tie.At-loop invariant-loop decreases-loop → tie.Start invariant-loop decreases-loop
+abbrev start : tie.At-loop-i invariant-loop decreases-loop → tie.Start invariant-loop decreases-loop
 start c = c.before.before.before.before
 
-loop-holds : tie.Need-loop-init invariant-loop decreases-loop
+loop-holds : tie.Need-loop-i-init invariant-loop decreases-loop
 loop-holds c = (omega arith, begun 0 c.before.before.before.args.out.now, refl)
 
-loop-again : tie.Need-loop-preserved invariant-loop decreases-loop
+loop-again : tie.Need-loop-i-preserved invariant-loop decreases-loop
 loop-again c =
     let turn = c.before.before in
-    let l = turn.loop in
+    let l = turn.loop-i in
     let src = (start turn).args.src.now in
     let b = get_or src l.i 0 in
-    let e : take (l.i + 1) src ≡ take l.i src ++ (b ∷ []) = rw add-one (take-suc src l.i 0 c.before.loop-test.true) in (
+    let e : take (l.i + 1) src ≡ take l.i src ++ (b ∷ []) = rw add-one (take-suc src l.i 0 c.before.loop-i-test.true) in (
       omega arith,
       rw e (next l.invariant.1 (one_byte l.i b l.out (omega arith))),
       simp length-set l.invariant.2,
     )
 
-returns-2 : tie.Need-returns-2 invariant-loop decreases-loop
+returns-2 : tie.Need-returns invariant-loop decreases-loop
 returns-2 c =
-    let l = c.before.loop in
+    let l = c.before.loop-i in
     let src = (start c.before).args.src.now in
     let e : take l.i src ≡ src = take_all l.i src (omega arith) in
     rw e at l.invariant.1

@@ -13,17 +13,17 @@ use Rattle.pen.proofs.Writing.{over_none, last-first}
 use Rattle.pen.proofs.put_digits.Statement.{statement}
 use Rattle.pen.proofs.put_digits.Tie as tie
 
-abbrev invariant-loop : tie.invariant-loop
+abbrev invariant-loop : tie.invariant-loop-i
 invariant-loop out₀ n k rest₀ i₀ out rest i =
     (i ≤ length out) × (over 0 (last_digits i rest) out ≡ over 0 (digits n) out₀) × (length out ≡ length out₀)
 
-abbrev decreases-loop : tie.decreases-loop
+abbrev decreases-loop : tie.decreases-loop-i
 decreases-loop out₀ n k rest₀ i₀ out rest i = i
 
-loop-holds : tie.Need-loop-init invariant-loop decreases-loop
+loop-holds : tie.Need-loop-i-init invariant-loop decreases-loop
 loop-holds c =
     let a = c.before.before.args in
-    let e : c.digit-count.result ≡ length (digits a.n) = c.digit-count.ensures in
+    let e : c.digit_count-k.result ≡ length (digits a.n) = c.digit_count-k.ensures in
     (omega (arith, e, c.before.before.requires), rw (e, last-all a.n), refl)
 
 -- the last of the digits that are left is written
@@ -47,16 +47,16 @@ turns i rest out h f =
     rw (next, behind, last, before, left)
     (turn (i - 1) (rest / 10) (set out (i - 1) (48 + rest % 10)) (omega arith) (simp length-set (omega arith)) ∙ turn i rest out (omega arith) f)
 
-loop-again : tie.Need-loop-preserved invariant-loop decreases-loop
+loop-again : tie.Need-loop-i-preserved invariant-loop decreases-loop
 loop-again c =
-    let l = c.before.loop in (
+    let l = c.before.loop-i in (
       simp length-set (omega (arith, l.invariant.0)),
-      turns l.i l.rest l.out c.loop-test.true l.invariant.0 ∙ l.invariant.1,
+      turns l.i l.rest l.out c.loop-i-test.true l.invariant.0 ∙ l.invariant.1,
       simp length-set l.invariant.2,
     )
 
-second : tie.Need-slice-write-out-2 invariant-loop decreases-loop
-second c = simp length-set (omega (arith, c.before.loop.invariant.0, c.loop-test.true))
+second : tie.Need-bounds-out-i-in-loop-i invariant-loop decreases-loop
+second c = simp length-set (omega (arith, c.before.loop-i.invariant.0, c.loop-i-test.true))
 
 -- no digit is left to write
 written : (n rest k : ℕ) (out₀ out : List ℕ) → k ≡ length (digits n) → over 0 (last_digits 0 rest) out ≡ over 0 (digits n) out₀ →
@@ -64,18 +64,18 @@ written : (n rest k : ℕ) (out₀ out : List ℕ) → k ≡ length (digits n) �
 written n rest k out₀ out e w = record { ends = omega (arith, e); holds = rw (last_none, over_none) at w }
 
 -- one is, where their count is odd
-returns : tie.Need-returns invariant-loop decreases-loop
+returns : tie.Need-returns-then-i-gt0 invariant-loop decreases-loop
 returns c =
-    let l = c.before.before.loop in
-    let one : l.i ≡ 1 = omega (arith, c.before.loop-test.false, c.if1.true) in
+    let l = c.before.before.loop-i in
+    let one : l.i ≡ 1 = omega (arith, c.before.loop-i-test.false, c.if-i-gt0.true) in
     let last = turn 1 l.rest l.out (omega arith) (omega (arith, l.invariant.0)) in
-    written _ _ _ _ _ c.before.before.before.digit-count.ensures (last ∙ rw one at l.invariant.1)
+    written _ _ _ _ _ c.before.before.before.digit_count-k.ensures (last ∙ rw one at l.invariant.1)
 
-returns-2 : tie.Need-returns-2 invariant-loop decreases-loop
+returns-2 : tie.Need-returns-else-i-gt0 invariant-loop decreases-loop
 returns-2 c =
-    let l = c.before.before.loop in
-    let none : l.i ≡ 0 = omega (arith, c.if1.false) in
-    written _ _ _ _ _ c.before.before.before.digit-count.ensures (rw none at l.invariant.1)
+    let l = c.before.before.loop-i in
+    let none : l.i ≡ 0 = omega (arith, c.if-i-gt0.false) in
+    written _ _ _ _ _ c.before.before.before.digit_count-k.ensures (rw none at l.invariant.1)
 
 pub put_digits_spec : {M : Type 1} → statement M
 put_digits_spec =

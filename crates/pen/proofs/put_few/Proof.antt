@@ -13,19 +13,19 @@ use Rattle.pen.proofs.Writing.{begun, next, one_byte}
 use Rattle.pen.proofs.put_few.Statement.{statement}
 use Rattle.pen.proofs.put_few.Tie as tie
 
-abbrev invariant-loop : tie.invariant-loop
+abbrev invariant-loop : tie.invariant-loop-turn
 invariant-loop out₀ src put₀ turn₀ out put turn = (put ≤ length src) × Written 0 (take put src) out₀ out put × (length out ≡ length out₀)
     × (length src + turn ≤ put + 8) × (turn ≤ 8)
 
-abbrev decreases-loop : tie.decreases-loop
+abbrev decreases-loop : tie.decreases-loop-turn
 decreases-loop out₀ src put₀ turn₀ out put turn = 8 - turn
 
-loop-holds : tie.Need-loop-init invariant-loop decreases-loop
+loop-holds : tie.Need-loop-turn-init invariant-loop decreases-loop
 loop-holds c = (omega arith, begun 0 c.args.out.now, refl, omega arith, omega arith)
 
-loop-again : tie.Need-loop-preserved invariant-loop decreases-loop
+loop-again : tie.Need-loop-turn-preserved invariant-loop decreases-loop
 loop-again c =
-    let l = c.before.before.loop in
+    let l = c.before.before.loop-turn in
     let a = c.before.before.before.args in
     let b = get_or a.src.now l.put 0 in
     let e : l.put < length a.src.now → take (l.put + 1) a.src.now ≡ take l.put a.src.now ++ (b ∷ []) =
@@ -39,11 +39,11 @@ loop-again c =
       omega arith,
     ))
     (λ w. rw (w.1, w.2) (l.invariant.0, l.invariant.1, l.invariant.2, omega (arith, w.0.left), omega arith))
-    c.if1.branch
+    c.if-put-src.branch
 
 returns : tie.Need-returns invariant-loop decreases-loop
 returns c =
-    let l = c.before.loop in
+    let l = c.before.loop-turn in
     let src = c.before.before.args.src.now in
     let e : take l.put src ≡ src = take_all l.put src (omega arith) in
     rw e at l.invariant.1

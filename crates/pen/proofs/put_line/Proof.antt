@@ -17,35 +17,35 @@ room : (s : tie.Start) → length s.args.key.now + length (decimal (W s.args.z))
 room s = rw (to_z-of_z w64 s.args.z s.ranges.z) (omega (arith, length-line s.args.key.now s.args.z))
 
 -- the places that others are reached from: the start, where the key is put, and where `=` is
-abbrev start : tie.After-bytes-at → tie.Start
+abbrev start : tie.After-bytes_at-a → tie.Start
 start c = c.before.before.before.before
 
-abbrev key : tie.After-bytes-at2 → tie.After-bytes-at
+abbrev key : tie.After-bytes_at-b → tie.After-bytes_at-a
 key c = let back = c.before.before.before in back.before.before
 
-abbrev equals : tie.After-number-at → tie.After-bytes-at2
+abbrev equals : tie.After-number_at-c → tie.After-bytes_at-b
 equals c = c.before.before.before.before
 
 -- how much room is left behind the key, and behind `=`
-after-key : (c : tie.After-bytes-at) → c.bytes-at.result + length (decimal (W (start c).args.z)) + 2 ≤ length c.bytes-at.new.0
-after-key c = omega (arith, room (start c), c.bytes-at.ensures.ends, c.bytes-at.auto.0)
+after-key : (c : tie.After-bytes_at-a) → c.bytes_at-a.result + length (decimal (W (start c).args.z)) + 2 ≤ length c.bytes_at-a.new.out
+after-key c = omega (arith, room (start c), c.bytes_at-a.ensures.ends, c.bytes_at-a.auto.out)
 
-after-equals : (c : tie.After-bytes-at2) → c.bytes-at2.result + length (decimal (W (start (key c)).args.z)) + 1 ≤ length c.bytes-at2.new.0
-after-equals c = omega (arith, after-key (key c), c.bytes-at2.ensures.ends, c.bytes-at2.auto.0)
+after-equals : (c : tie.After-bytes_at-b) → c.bytes_at-b.result + length (decimal (W (start (key c)).args.z)) + 1 ≤ length c.bytes_at-b.new.0
+after-equals c = omega (arith, after-key (key c), c.bytes_at-b.ensures.ends, c.bytes_at-b.auto.0)
 
-bytes-at-requires : tie.Need-bytes-at-requires
+bytes-at-requires : tie.Need-bytes_at-a-requires
 bytes-at-requires c κs = omega (arith, room c.before.before.before)
 
-bytes-at-requires-2 : tie.Need-bytes-at-requires-2
+bytes-at-requires-2 : tie.Need-bytes_at-b-requires
 bytes-at-requires-2 c κs = omega (arith, after-key c.before.before.before.before)
 
-number-at-requires : tie.Need-number-at-requires
+number-at-requires : tie.Need-number_at-c-requires
 number-at-requires c κs = omega (arith, after-equals c.before.before.before)
 
-bytes-at-requires-3 : tie.Need-bytes-at-requires-3
+bytes-at-requires-3 : tie.Need-bytes_at-requires
 bytes-at-requires-3 c κs =
     let number = c.before.before.before.before in
-    omega (arith, after-equals (equals number), number.number_at.ensures.ends, number.number_at.auto.0)
+    omega (arith, after-equals (equals number), number.number_at-c.ensures.ends, number.number_at-c.auto.0)
 
 returns : tie.Need-returns
 returns c =
@@ -54,8 +54,8 @@ returns c =
     let number = back.before.before in
     let e = equals number in
     let s = start (key e) in
-    let digits = rw (to_z-of_z w64 s.args.z s.fits.z) at number.number_at.ensures in
-    rw (← line-pieces) (next (next (next (key e).bytes-at.ensures e.bytes-at2.ensures) digits) end.bytes-at3.ensures)
+    let digits = rw (to_z-of_z w64 s.args.z s.fits.z) at number.number_at-c.ensures in
+    rw (← line-pieces) (next (next (next (key e).bytes_at-a.ensures e.bytes_at-b.ensures) digits) end.bytes_at.ensures)
 
 pub put_line_spec : {M : Type 1} → statement M
 put_line_spec =

@@ -25,13 +25,13 @@ pieces : (n p : ℕ) → n < 2 ^ 32 → (bytes "refused=" ++ decimal (to_z w64 n
 pieces n p h = rw (same n h) (grouped (bytes "refused=") (decimal (pos n)) (behind_comma p))
 
 -- the start, and the places where `refused=` and the number are put
-abbrev start : tie.After-bytes-at → tie.Start
+abbrev start : tie.After-bytes_at-word → tie.Start
 start c = c.before.before.before.before
 
-abbrev word : tie.After-number-at → tie.After-bytes-at
+abbrev word : tie.After-number_at-behind → tie.After-bytes_at-word
 word c = c.before.before.before.before
 
-abbrev number : tie.After-behind-comma → tie.After-number-at
+abbrev number : tie.After-behind_comma → tie.After-number_at-behind
 number c = c.before.before.before.before
 
 -- a number's text is short, as a call has it and as it is; so are both, whichever is put last
@@ -48,21 +48,21 @@ number_short s = is-short s.args.number s.ranges.number.fits
 place_short : (s : tie.Start) → Short s.args.place
 place_short s = is-short s.args.place s.ranges.place.fits
 
-number-at-requires : tie.Need-number-at-requires
+number-at-requires : tie.Need-number_at-behind-requires
 number-at-requires c κs =
     let w = c.before.before.before in
     let s = start w in
-    omega (arith, s.pre, (number_short s).called, (place_short s).called, w.bytes-at.ensures.ends, w.bytes-at.auto.0)
+    omega (arith, s.pre, (number_short s).called, (place_short s).called, w.bytes_at-word.ensures.ends, w.bytes_at-word.auto.0)
 
-behind-comma-requires : tie.Need-behind-comma-requires
+behind-comma-requires : tie.Need-behind_comma-requires
 behind-comma-requires c κs =
     let n = c.before.before.before in
     let w = word n in
     let s = start w in
     let a = number_short s in
     let b = place_short s in
-    let put = n.number_at in
-    omega (arith, s.pre, a.called, a.text, b.called, b.text, w.bytes-at.ensures.ends, w.bytes-at.kept.0, put.ensures.ends, put.auto.0)
+    let put = n.number_at-behind in
+    omega (arith, s.pre, a.called, a.text, b.called, b.text, w.bytes_at-word.ensures.ends, w.bytes_at-word.kept.0, put.ensures.ends, put.auto.0)
 
 returns : tie.Need-returns
 returns c =
@@ -73,10 +73,10 @@ returns c =
     let a = s.args in
     let short-number = (number_short s).called in
     let short-place = (place_short s).text in
-    let three = next (next w.bytes-at.ensures n.number_at.ensures) p.behind-comma.ensures in
+    let three = next (next w.bytes_at-word.ensures n.number_at-behind.ensures) p.behind_comma.ensures in
     let text = pieces a.number a.place s.fits.number.fits in
-    let whole = subst (λ (t : List ℕ). Written 0 t a.out.now p.behind-comma.new.0 p.behind-comma.result) text three in
-    (whole, omega (arith, short-number, short-place, w.bytes-at.ensures.ends, n.number_at.ensures.ends, p.behind-comma.ensures.ends))
+    let whole = subst (λ (t : List ℕ). Written 0 t a.out.now p.behind_comma.new.0 p.behind_comma.result) text three in
+    (whole, omega (arith, short-number, short-place, w.bytes_at-word.ensures.ends, n.number_at-behind.ensures.ends, p.behind_comma.ensures.ends))
 
 pub refused_at_spec : {M : Type 1} → statement M
 refused_at_spec =
