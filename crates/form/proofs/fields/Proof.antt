@@ -22,71 +22,71 @@ use Rattle.form.proofs.Steps.{fields_wrong, fields-done, fields-bad, fields-more
 use Rattle.form.proofs.fields.Statement.{statement}
 use Rattle.form.proofs.fields.Tie as tie
 
-abbrev invariant-loop : tie.invariant-loop
+abbrev invariant-loop : tie.invariant-loop-i
 invariant-loop v n next values₀ at₀ i₀ values at i =
     (fields_of n next i values (left v at) ≡ fields_of n next 0 zeros (pieces 44 v)) × (i + length (left v at) ≡ n)
 
-abbrev decreases-loop : tie.decreases-loop
+abbrev decreases-loop : tie.decreases-loop-i
 decreases-loop v n next values₀ at₀ i₀ values at i = n - i
 
 -- the line's text, from a turn of the loop, and the turn in which a number is read
-abbrev line : tie.At-loop invariant-loop decreases-loop → List ℕ
-line c = let counted = c.before.before in counted.before.before.before.args.v.now
+abbrev line : tie.At-loop-i invariant-loop decreases-loop → List ℕ
+line c = let counted = c.before.before in counted.args.v.now
 
-abbrev turn : tie.After-number invariant-loop decreases-loop → tie.At-loop invariant-loop decreases-loop
+abbrev turn : tie.After-number invariant-loop decreases-loop → tie.At-loop-i invariant-loop decreases-loop
 turn c = c.before.before.before.before
 
-step : (c : tie.After-find invariant-loop decreases-loop) → Piece (line c.before.before) c.before.before.loop.at c.find.result
-step c = next-piece _ _ _ c.find.ensures (omega arith)
+step : (c : tie.After-find-e invariant-loop decreases-loop) → Piece (line c.before.before) c.loop-i.at c.find-e.result
+step c = next-piece _ _ _ c.find-e.ensures (omega arith)
 
 -- what `number` was asked
-text : (c : tie.After-number invariant-loop decreases-loop) → c.number.result ≡ number_of (up_to 44 (drop (turn c).loop.at (line (turn c))))
+text : (c : tie.After-number invariant-loop decreases-loop) → c.number.result ≡ number_of (up_to 44 (drop (turn c).loop-i.at (line (turn c))))
 text c =
-    let at = (turn c).loop.at in
+    let at = (turn c).loop-i.at in
     let v = line (turn c) in
-    c.number.ensures ∙ ap number_of (ap (λ (e : ℕ). take (e - at) (drop at v)) c.before.before.find.ensures ∙ piece v at 44)
+    c.number.ensures ∙ ap number_of (ap (λ (e : ℕ). take (e - at) (drop at v)) c.find-e.ensures ∙ piece v at 44)
 
-returns : tie.Need-returns invariant-loop decreases-loop
+returns : tie.Need-returns-then-n-eq0 invariant-loop decreases-loop
 returns c =
-    let a = c.before.before.before.args in
+    let a = c.args in
     let v = a.v.now in
     c.refuse.ensures
     ∙ sym (fields_wrong _ _ 0 _ (pieces 44 v)
     (λ e. ⊎_elim (λ w. omega (arith, pieces-count 44 v))
-    (λ w. eqb-false w.1.result (a.n - 1) (not-true _ w.2.taken) (omega (arith, pieces-count 44 v, w.1.ensures))) c.before.if1.branch))
+    (λ w. eqb-false w.1.result (a.n - 1) (not-true _ w.2.taken) (omega (arith, pieces-count 44 v, w.1.ensures))) c.then-n-eq0.branch))
 
-loop-holds : tie.Need-loop-init invariant-loop decreases-loop
+loop-holds : tie.Need-loop-i-init invariant-loop decreases-loop
 loop-holds c =
-    let a = c.before.before.before.before.args in
+    let a = c.args in
     let v = a.v.now in
     rw (left-all v)
-    (refl, omega (arith, pieces-count 44 v, c.before.count.ensures, eqb-true c.before.count.result (a.n - 1) (not-false _ c.if2.false)))
+    (refl, omega (arith, pieces-count 44 v, c.count.ensures, eqb-true c.count.result (a.n - 1) (not-false _ c.if-count-n.false)))
 
-part-number-end : tie.Need-slice-bounds-number-end invariant-loop decreases-loop
+part-number-end : tie.Need-slice_bounds-number-end invariant-loop decreases-loop
 part-number-end c = omega (arith, step c)
 
-returns-2 : tie.Need-returns-2 invariant-loop decreases-loop
+returns-2 : tie.Need-returns-in-NotANumber invariant-loop decreases-loop
 returns-2 c =
     let p = c.before.before.before in
-    let s = (step p.before.before).first in
-    let l = (turn p).loop in
-    c.refuse2.ensures ∙ sym (fields-bad _ _ _ _ _ _ (rw s at l.inv.1) (sym (text p) ∙ c.before.enum_told.given.1)) ∙ rw s at l.inv.0
+    let s = (step p.before).first in
+    let l = (turn p).loop-i in
+    c.refuse-in-NotANumber.ensures ∙ sym (fields-bad _ _ _ _ _ _ (rw s at l.inv.1) (sym (text p) ∙ c.enum_told-1.given.1)) ∙ rw s at l.inv.0
 
-add_at : tie.Need-overflow-add-at invariant-loop decreases-loop
-add_at c = let read = c.before.before.before in omega (arith, step read.before.before)
+add_at : tie.Need-overflow_add-at invariant-loop decreases-loop
+add_at c = let read = c.before.before.before in omega (arith, step read)
 
-loop-again : tie.Need-loop-preserved invariant-loop decreases-loop
+loop-again : tie.Need-loop-i-preserved invariant-loop decreases-loop
 loop-again c =
     let p = c.before.before.before in
-    let s = (step p.before.before).first in
-    let l = (turn p).loop in
+    let s = (step p).first in
+    let l = (turn p).loop-i in
     let z = c.before.z.given.0.0 in
     let b = to_z-of_z w64 z (record { sfits = omega (arith, c.known-told.given) }) in
     rw b (sym (fields-more _ _ _ _ _ _ z (sym (text p) ∙ c.before.z.given.1)) ∙ rw s at l.inv.0, omega (arith, ap length s))
 
-returns-3 : tie.Need-returns-3 invariant-loop decreases-loop
+returns-3 : tie.Need-returns invariant-loop decreases-loop
 returns-3 c =
-    let l = c.before.loop in
+    let l = c.loop-i in
     sym (fields-done _ _ _ _ _ (omega arith) (omega arith)) ∙ l.invariant.0
 
 pub fields_spec : {M : Type 1} → statement M

@@ -12,7 +12,7 @@ use Rattle.form.proofs.judged.Statement.{statement}
 use Rattle.form.proofs.judged.Tie as tie
 
 -- where the line's end was looked for, from where its key was, and the start
-abbrev ended : tie.After-starts → tie.After-find
+abbrev ended : tie.After-starts → tie.After-find-e
 ended c = c.before.before.before
 
 abbrev start : tie.After-starts → tie.Start
@@ -24,33 +24,33 @@ begun c =
     let a = (start c).args in
     let t = drop a.at a.s.now in
     c.starts.ensures
-    ∙ ap (begins a.key.now) (ap (λ (e : ℕ). take (e - a.at) t) (ended c).find.ensures ∙ piece a.s.now a.at 10)
+    ∙ ap (begins a.key.now) (ap (λ (e : ℕ). take (e - a.at) t) (ended c).find-e.ensures ∙ piece a.s.now a.at 10)
 
 -- a line that begins with the key is at least as long
-within : (c : tie.Then2) → let a = (start c.before).args in a.at + length a.key.now ≤ (ended c.before).find.result
+within : (c : tie.Then-starts) → let a = (start c.before).args in a.at + length a.key.now ≤ (ended c.before).find-e.result
 within c =
     let f = ended c.before in
     let a = (start c.before).args in
     let k = a.key.now in
     let b = up_to 10 (drop a.at a.s.now) in
-    omega (arith, f.find.ensures, ap length (begins-key k b (sym (begun c.before) ∙ c.if2.true)), length-append k (drop (length k) b))
+    omega (arith, f.find-e.ensures, ap length (begins-key k b (sym (begun c.before) ∙ c.if-starts.true)), length-append k (drop (length k) b))
 
-returns : tie.Need-returns
-returns c = c.refuse.ensures ∙ sym (endless _ _ _ _ (omega (arith, c.before.before.find.ensures)))
+returns : tie.Need-returns-then-s-e
+returns c = c.refuse.ensures ∙ sym (endless _ _ _ _ (omega (arith, c.find-e.ensures)))
 
-returns-2 : tie.Need-returns-2
+returns-2 : tie.Need-returns-then-starts
 returns-2 c =
     let p = c.before.before in
     let f = p.before.before.before.before in
-    let e = rw f.find.ensures at p.before.before.before.if1.false in
-    let k = line-keyed _ _ _ e (sym (begun p.before) ∙ p.if2.true) in
-    rw f.find.ensures at c.fields.ensures ∙ sym (line-fields _ _ _ _ k e)
+    let e = rw f.find-e.ensures at p.if-s-e.false in
+    let k = line-keyed _ _ _ e (sym (begun p.before) ∙ p.if-starts.true) in
+    rw f.find-e.ensures at c.fields.ensures ∙ sym (line-fields _ _ _ _ k e)
 
-returns-3 : tie.Need-returns-3
+returns-3 : tie.Need-returns-else-starts
 returns-3 c =
     let p = c.before.before in
-    c.refuse2.ensures
-    ∙ sym (unkeyed _ _ _ _ (rw p.before.before.before.find.ensures at p.before.before.if1.false) (sym (begun p) ∙ c.before.if2.false))
+    c.refuse-else-starts.ensures
+    ∙ sym (unkeyed _ _ _ _ (rw p.find-e.ensures at p.if-s-e.false) (sym (begun p) ∙ c.if-starts.false))
 
 pub judged_spec : {M : Type 1} → statement M
 judged_spec =

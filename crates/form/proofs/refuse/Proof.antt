@@ -4,7 +4,7 @@ use Rattle.form.proofs.refuse.Statement.{statement}
 use Rattle.form.proofs.refuse.Tie as tie
 
 returns : tie.Need-returns
-returns c = rw (c.before.refusal-number.ensures, c.refusal-field.ensures)
+returns c = rw (c.refusal_number.ensures, c.refusal_field.ensures)
 
 pub refuse_spec : {M : Type 1} → statement M
 refuse_spec = tie.close (tie.spec (λ c κs. search rules) (λ c κs. search rules) returns)

@@ -16,14 +16,14 @@ use Rattle.pen.proofs.behind_comma.Tie as tie
 
 -- the start, from behind the comma
 abbrev start : tie.After-bytes_at-behind → tie.Start
-start c = c.before.before.before.before
+start c = c.before.before.before.before.before
 
 number-at-requires : tie.Need-number_at-requires
 number-at-requires c κs =
     let comma = c.before.before.before in
     let s = start comma in
-    let e = same s.args.number s.fits.number.fits in
-    rw e (omega (arith, s.pre, comma.bytes_at-behind.ensures.ends, comma.bytes_at-behind.auto.0))
+    let e = same s.args.number s.ranges.number.fits in
+    rw e (omega (arith, s.requires, comma.bytes_at-behind.ensures.ends, comma.bytes_at-behind.auto.out))
 
 returns : tie.Need-returns
 returns c =
@@ -31,8 +31,8 @@ returns c =
     let comma = n.before.before.before.before in
     let s = start comma in
     let both = next comma.bytes_at-behind.ensures n.number_at.ensures in
-    subst (λ (z : ℤ). Written s.args.at (bytes "," ++ decimal z) s.args.out.now n.number_at.new.0 n.number_at.result)
-    (same s.args.number s.fits.number.fits) both
+    subst (λ (z : ℤ). Written s.args.at (bytes "," ++ decimal z) s.args.out.now n.number_at.new.out n.number_at.result)
+    (same s.args.number s.ranges.number.fits) both
 
 pub behind_comma_spec : {M : Type 1} → statement M
 behind_comma_spec =

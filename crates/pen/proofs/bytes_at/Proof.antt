@@ -14,4 +14,4 @@ bytes_at_spec =
     (λ c κs. search rules)
     (λ c. search rules)
     (λ c. search rules)
-    (λ c. in_part c.before.before.put_bytes.ensures))
+    (λ c. in_part c.put_bytes.ensures))

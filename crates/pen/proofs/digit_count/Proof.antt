@@ -18,10 +18,10 @@ abbrev decreases-loop : tie.decreases-loop-power
 decreases-loop n most k₀ power₀ k power = length (digits n) - k
 
 -- where ten times `power` is not above the number, it has a digit more, and else it has none
-more : (c : tie.In-loop-power invariant-loop decreases-loop) → c.before.loop-power.k < length (digits c.before.before.args.n)
+more : (c : tie.In-loop-power invariant-loop decreases-loop) → c.loop-power.k < length (digits c.args.n)
 more c =
-    let n = c.before.before.args.n in
-    let l = c.before.loop-power in
+    let n = c.args.n in
+    let l = c.loop-power in
     let h : l.power * 10 ≤ n = omega arith in
     digits_above l.k n (rw (← l.invariant.0) h)
 
@@ -36,18 +36,18 @@ mul_power : tie.Need-overflow_mul-power invariant-loop decreases-loop
 mul_power c = omega arith
 
 add-k : tie.Need-overflow_add-k invariant-loop decreases-loop
-add-k c = omega (arith, more c, length_digits 19 c.before.before.args.n (omega arith))
+add-k c = omega (arith, more c, length_digits 19 c.args.n (omega arith))
 
 loop-less : tie.Need-loop-power-smaller invariant-loop decreases-loop
 loop-less c = omega (arith, more c)
 
 loop-again : tie.Need-loop-power-preserved invariant-loop decreases-loop
-loop-again c = (rw (add-one, pow-suc, c.before.loop-power.invariant.0), omega (arith, more c))
+loop-again c = (rw (add-one, pow-suc, c.loop-power.invariant.0), omega (arith, more c))
 
 returns : tie.Need-returns invariant-loop decreases-loop
 returns c =
-    let l = c.before.loop-power in
-    omega (arith, no_more c.before.before.args.n l.k l.power l.invariant.0 (omega arith))
+    let l = c.loop-power in
+    omega (arith, no_more c.args.n l.k l.power l.invariant.0 (omega arith))
 
 pub digit_count_spec : {M : Type 1} → statement M
 digit_count_spec =

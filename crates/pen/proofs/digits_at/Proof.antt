@@ -14,4 +14,4 @@ digits_at_spec =
     (λ c κs. search rules)
     (λ c. search rules)
     (λ c. search rules)
-    (λ c. in_part c.before.before.put_digits.ensures))
+    (λ c. in_part c.put_digits.ensures))

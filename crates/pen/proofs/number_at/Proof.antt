@@ -15,27 +15,27 @@ use Rattle.pen.proofs.number_at.Tie as tie
 abbrev start : tie.After-magnitude-n → tie.Start
 start c = c.before.before
 
-minus : (c : tie.Then-z-lt0) → decimal (start c.before).args.z ≡ bytes "-" ++ digits c.before.magnitude-n.result
-minus c = minus-text _ _ (start c.before).ranges.z c.before.magnitude-n.ensures c.if-z-lt0.true
+minus : (c : tie.Then-z-lt0) → decimal (start c.before).args.z ≡ bytes "-" ++ digits c.magnitude-n.result
+minus c = minus-text _ _ (start c.before).ranges.z c.magnitude-n.ensures c.if-z-lt0.true
 
-plain : (c : tie.Else-z-lt0) → decimal (start c.before).args.z ≡ digits c.before.magnitude-n.result
-plain c = plain-text _ _ (start c.before).ranges.z c.before.magnitude-n.ensures c.if-z-lt0.false
+plain : (c : tie.Else-z-lt0) → decimal (start c.before).args.z ≡ digits c.magnitude-n.result
+plain c = plain-text _ _ (start c.before).ranges.z c.magnitude-n.ensures c.if-z-lt0.false
 
 bytes-at-requires : tie.Need-bytes_at-next-requires
-bytes-at-requires c κs = let below = c.before.before in omega (arith, ap length (minus below), (start below.before).requires)
+bytes-at-requires c κs = let below = c.before.before in omega (arith, ap length (minus below.before), (start below.before.before).requires)
 
 digits-at-requires : tie.Need-digits_at-requires
 digits-at-requires c κs =
     let sign = c.before.before.before in
     let below = sign.before.before.before in
-    omega (arith, ap length (minus below), (start below.before).requires, sign.bytes_at-next.ensures.ends, sign.bytes_at-next.auto.0)
+    omega (arith, ap length (minus below.before), (start below.before.before).requires, sign.bytes_at-next.ensures.ends, sign.bytes_at-next.auto.out)
 
 returns : tie.Need-returns-then-z-lt0
 returns c =
     let put = c.before.before in
     let sign = put.before.before.before.before in
     let below = sign.before.before.before in
-    rw (minus below) (next sign.bytes_at-next.ensures put.digits_at.ensures)
+    rw (minus below.before) (next sign.bytes_at-next.ensures put.digits_at.ensures)
 
 digits-at-requires-2 : tie.Need-digits_at-requires-2
 digits-at-requires-2 c κs = let above = c.before in omega (arith, ap length (plain above), (start above.before).requires)

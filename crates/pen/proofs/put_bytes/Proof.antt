@@ -22,7 +22,7 @@ abbrev start : tie.At-loop-i invariant-loop decreases-loop → tie.Start invaria
 start c = c.before.before.before.before
 
 loop-holds : tie.Need-loop-i-init invariant-loop decreases-loop
-loop-holds c = (omega arith, begun 0 c.before.before.before.args.out.now, refl)
+loop-holds c = (omega arith, begun 0 c.args.out.now, refl)
 
 loop-again : tie.Need-loop-i-preserved invariant-loop decreases-loop
 loop-again c =
@@ -30,7 +30,7 @@ loop-again c =
     let l = turn.loop-i in
     let src = (start turn).args.src.now in
     let b = get_or src l.i 0 in
-    let e : take (l.i + 1) src ≡ take l.i src ++ (b ∷ []) = rw add-one (take-suc src l.i 0 c.before.loop-i-test.true) in (
+    let e : take (l.i + 1) src ≡ take l.i src ++ (b ∷ []) = rw add-one (take-suc src l.i 0 c.loop-i-test.true) in (
       omega arith,
       rw e (next l.invariant.1 (one_byte l.i b l.out (omega arith))),
       simp length-set l.invariant.2,
@@ -38,7 +38,7 @@ loop-again c =
 
 returns-2 : tie.Need-returns invariant-loop decreases-loop
 returns-2 c =
-    let l = c.before.loop-i in
+    let l = c.loop-i in
     let src = (start c.before).args.src.now in
     let e : take l.i src ≡ src = take_all l.i src (omega arith) in
     rw e at l.invariant.1

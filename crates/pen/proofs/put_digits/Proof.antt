@@ -22,9 +22,9 @@ decreases-loop out₀ n k rest₀ i₀ out rest i = i
 
 loop-holds : tie.Need-loop-i-init invariant-loop decreases-loop
 loop-holds c =
-    let a = c.before.before.args in
+    let a = c.args in
     let e : c.digit_count-k.result ≡ length (digits a.n) = c.digit_count-k.ensures in
-    (omega (arith, e, c.before.before.requires), rw (e, last-all a.n), refl)
+    (omega (arith, e, c.requires), rw (e, last-all a.n), refl)
 
 -- the last of the digits that are left is written
 turn : (i rest : ℕ) (out : List ℕ) → 0 < i → i ≤ length out →
@@ -49,14 +49,14 @@ turns i rest out h f =
 
 loop-again : tie.Need-loop-i-preserved invariant-loop decreases-loop
 loop-again c =
-    let l = c.before.loop-i in (
+    let l = c.loop-i in (
       simp length-set (omega (arith, l.invariant.0)),
       turns l.i l.rest l.out c.loop-i-test.true l.invariant.0 ∙ l.invariant.1,
       simp length-set l.invariant.2,
     )
 
 second : tie.Need-bounds-out-i-in-loop-i invariant-loop decreases-loop
-second c = simp length-set (omega (arith, c.before.loop-i.invariant.0, c.loop-i-test.true))
+second c = simp length-set (omega (arith, c.loop-i.invariant.0, c.loop-i-test.true))
 
 -- no digit is left to write
 written : (n rest k : ℕ) (out₀ out : List ℕ) → k ≡ length (digits n) → over 0 (last_digits 0 rest) out ≡ over 0 (digits n) out₀ →
@@ -66,16 +66,16 @@ written n rest k out₀ out e w = record { ends = omega (arith, e); holds = rw (
 -- one is, where their count is odd
 returns : tie.Need-returns-then-i-gt0 invariant-loop decreases-loop
 returns c =
-    let l = c.before.before.loop-i in
-    let one : l.i ≡ 1 = omega (arith, c.before.loop-i-test.false, c.if-i-gt0.true) in
+    let l = c.loop-i in
+    let one : l.i ≡ 1 = omega (arith, c.loop-i-test.false, c.if-i-gt0.true) in
     let last = turn 1 l.rest l.out (omega arith) (omega (arith, l.invariant.0)) in
-    written _ _ _ _ _ c.before.before.before.digit_count-k.ensures (last ∙ rw one at l.invariant.1)
+    written _ _ _ _ _ c.digit_count-k.ensures (last ∙ rw one at l.invariant.1)
 
 returns-2 : tie.Need-returns-else-i-gt0 invariant-loop decreases-loop
 returns-2 c =
-    let l = c.before.before.loop-i in
+    let l = c.loop-i in
     let none : l.i ≡ 0 = omega (arith, c.if-i-gt0.false) in
-    written _ _ _ _ _ c.before.before.before.digit_count-k.ensures (rw none at l.invariant.1)
+    written _ _ _ _ _ c.digit_count-k.ensures (rw none at l.invariant.1)
 
 pub put_digits_spec : {M : Type 1} → statement M
 put_digits_spec =

@@ -25,26 +25,26 @@ loop-holds c = (omega arith, begun 0 c.args.out.now, refl, omega arith, omega ar
 
 loop-again : tie.Need-loop-turn-preserved invariant-loop decreases-loop
 loop-again c =
-    let l = c.before.before.loop-turn in
-    let a = c.before.before.before.args in
+    let l = c.loop-turn in
+    let a = c.args in
     let b = get_or a.src.now l.put 0 in
     let e : l.put < length a.src.now → take (l.put + 1) a.src.now ≡ take l.put a.src.now ++ (b ∷ []) =
     λ h. rw add-one (take-suc a.src.now l.put 0 h) in
     ⊎_elim
-    (λ w. rw (w.2, w.3) (
+    (λ w. rw (w.out-is, w.put-is) (
       omega arith,
-      rw (e w.0.taken) (next l.invariant.1 (one_byte l.put b l.out (omega arith))),
+      rw (e w.if-put-src.true) (next l.invariant.1 (one_byte l.put b l.out (omega arith))),
       simp length-set l.invariant.2,
       omega arith,
       omega arith,
     ))
-    (λ w. rw (w.1, w.2) (l.invariant.0, l.invariant.1, l.invariant.2, omega (arith, w.0.left), omega arith))
-    c.if-put-src.branch
+    (λ w. rw (w.out-is, w.put-is) (l.invariant.0, l.invariant.1, l.invariant.2, omega (arith, w.if-put-src.false), omega arith))
+    c.if-put-src.branch-raw
 
 returns : tie.Need-returns invariant-loop decreases-loop
 returns c =
-    let l = c.before.loop-turn in
-    let src = c.before.before.args.src.now in
+    let l = c.loop-turn in
+    let src = c.args.src.now in
     let e : take l.put src ≡ src = take_all l.put src (omega arith) in
     rw e at l.invariant.1
 

@@ -26,7 +26,7 @@ pieces n p h = rw (same n h) (grouped (bytes "refused=") (decimal (pos n)) (behi
 
 -- the start, and the places where `refused=` and the number are put
 abbrev start : tie.After-bytes_at-word → tie.Start
-start c = c.before.before.before.before
+start c = c.before.before.before.before.before
 
 abbrev word : tie.After-number_at-behind → tie.After-bytes_at-word
 word c = c.before.before.before.before
@@ -52,7 +52,7 @@ number-at-requires : tie.Need-number_at-behind-requires
 number-at-requires c κs =
     let w = c.before.before.before in
     let s = start w in
-    omega (arith, s.pre, (number_short s).called, (place_short s).called, w.bytes_at-word.ensures.ends, w.bytes_at-word.auto.0)
+    omega (arith, s.requires, (number_short s).called, (place_short s).called, w.bytes_at-word.ensures.ends, w.bytes_at-word.auto.out)
 
 behind-comma-requires : tie.Need-behind_comma-requires
 behind-comma-requires c κs =
@@ -62,7 +62,7 @@ behind-comma-requires c κs =
     let a = number_short s in
     let b = place_short s in
     let put = n.number_at-behind in
-    omega (arith, s.pre, a.called, a.text, b.called, b.text, w.bytes_at-word.ensures.ends, w.bytes_at-word.kept.0, put.ensures.ends, put.auto.0)
+    omega (arith, s.requires, a.called, a.text, b.called, b.text, w.bytes_at-word.ensures.ends, w.bytes_at-word.auto.out, put.ensures.ends, put.auto.out)
 
 returns : tie.Need-returns
 returns c =
@@ -74,8 +74,8 @@ returns c =
     let short-number = (number_short s).called in
     let short-place = (place_short s).text in
     let three = next (next w.bytes_at-word.ensures n.number_at-behind.ensures) p.behind_comma.ensures in
-    let text = pieces a.number a.place s.fits.number.fits in
-    let whole = subst (λ (t : List ℕ). Written 0 t a.out.now p.behind_comma.new.0 p.behind_comma.result) text three in
+    let text = pieces a.number a.place s.ranges.number.fits in
+    let whole = subst (λ (t : List ℕ). Written 0 t a.out.now p.behind_comma.new.out p.behind_comma.result) text three in
     (whole, omega (arith, short-number, short-place, w.bytes_at-word.ensures.ends, n.number_at-behind.ensures.ends, p.behind_comma.ensures.ends))
 
 pub refused_at_spec : {M : Type 1} → statement M

@@ -15,7 +15,7 @@ returns c =
     let s = c.before.before.before in
     let n : SFits w64 s.args.self.0 = search rules in
     let d : SFits w64 s.args.self.1 = search rules in
-    to_z-of_z (sfits_of c.nearest.type-inv) ∙ (rw (to_z-of_z n, to_z-of_z d) at c.nearest.ensures)
+    to_z-of_z (sfits_of c.nearest.type_inv) ∙ (rw (to_z-of_z n, to_z-of_z d) at c.nearest.ensures)
 
 pub units_spec : {M : Type 1} → statement M
 units_spec = tie.close (tie.spec nearest-requires returns)
