@@ -37,10 +37,10 @@ returns-2 c =
     let b = drop a.at s in
     let n : l.i < length b = omega (arith, length-drop a.at s) in
     ⊎_elim
-    (λ w. sym (line_feed s a.at key (λ z. omega (arith, l.invariant.1, count_hit 10 key l.i h w.taken))))
+    (λ w. sym (line_feed s a.at key (λ z. omega (arith, l.invariant.1, count_hit 10 key l.i h w.if-key-i-eq10.true))))
     (λ w. sym (other_key s a.at key (sym l.invariant.0
-    ∙ begins-other key b l.i h n (λ e. eqb-false _ _ (not-true _ w.3.taken) (sym (get_or-drop a.at s l.i 0) ∙ e)))))
-    c.then-key-i-eq10.branch
+    ∙ begins-other key b l.i h n (λ e. w.if-s-at-2.true (sym (get_or-drop a.at s l.i 0) ∙ e)))))
+    c.then-key-i-eq10.branch-raw
 
 loop-again : tie.Need-loop-i-preserved invariant-loop decreases-loop
 loop-again c =
@@ -51,7 +51,7 @@ loop-again c =
     let a = turn.args in
     let b = drop a.at a.s.now in
     let n : l.i < length b = omega (arith, length-drop a.at a.s.now) in (
-      sym (begins-same a.key.now b l.i h n (get_or-drop a.at a.s.now l.i 0 ∙ eqb-true _ _ (not-false _ c.if-s-at-2.false))) ∙ l.invariant.0,
+      sym (begins-same a.key.now b l.i h n (get_or-drop a.at a.s.now l.i 0 ∙ c.if-s-at-2.false)) ∙ l.invariant.0,
       sym (count_miss 10 a.key.now l.i h e.if-key-i-eq10.false) ∙ l.invariant.1,
       l.invariant.2,
     )

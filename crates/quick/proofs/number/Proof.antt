@@ -27,9 +27,9 @@ digit c = omega (arith, c.wrapping_sub_u8-first.ensures, c.if-first-gt9.false)
 -- as many bytes as the loop may see: two at least, ten at most, and two where the first is a 0
 most : (c : tie.Joined-first-eq0 invariant-loop decreases-loop) → (2 ≤ c.if-first-eq0.most) × (c.if-first-eq0.most ≤ 10) × (c.wrapping_sub_u8-first.result ≡ 0 → c.if-first-eq0.most ≡ 2)
 most c = ⊎_elim
-    (λ w. (omega (arith, w.1), omega (arith, w.1), λ e. w.1))
-    (λ w. (omega (arith, w.1), omega (arith, w.1), λ e. absurd (w.0.left e)))
-    c.if-first-eq0.branch
+    (λ w. (omega (arith, w.most-is), omega (arith, w.most-is), λ e. w.most-is))
+    (λ w. (omega (arith, w.most-is), omega (arith, w.most-is), λ e. absurd (w.if-first-eq0.false e)))
+    c.if-first-eq0.branch-raw
 
 -- where the loop ends: behind the first byte, and within the text and those bytes
 ends : (c : tie.Joined-s-at-2 invariant-loop decreases-loop) → let a = (start c.before.before).args in
@@ -37,9 +37,9 @@ ends : (c : tie.Joined-s-at-2 invariant-loop decreases-loop) → let a = (start 
 ends c =
     let m = most c.before in
     ⊎_elim
-    (λ w. (omega (arith, ltb-false, w.0.taken, w.1), omega (arith, w.1), omega (arith, w.0.taken, w.1)))
-    (λ w. (omega (arith, m.0, w.1), omega (arith, ltb-false, m.0, w.0.left, w.1), omega (arith, w.1)))
-    c.if-s-at-2.branch
+    (λ w. (omega (arith, w.if-s-at-2.true, w.end-is), omega (arith, w.end-is), omega (arith, w.if-s-at-2.true, w.end-is)))
+    (λ w. (omega (arith, m.0, w.end-is), omega (arith, m.0, w.if-s-at-2.false, w.end-is), omega (arith, w.end-is)))
+    c.if-s-at-2.branch-raw
 
 cast-m : tie.Need-overflow_cast-m invariant-loop decreases-loop
 cast-m c = omega (arith, c.if-first-gt9.false)

@@ -18,7 +18,7 @@ abbrev Said : tie.Joined-i-n invariant-loop decreases-loop → Whole → Type 0
 Said j q = let l = j.before.before in (q.next ≡ 0 → ⊥) → Number l.args.s.now l.loop-i.at j.if-i-n.c q.value q.next
 
 read : (c : tie.Joined-at-text invariant-loop decreases-loop) → Said c.before c.if-at-text.q
-read c = ⊎_elim (λ w. subst (Said c.before) (sym w.5) w.4.ensures) (λ w. subst (Said c.before) (sym w.2) w.1.ensures) c.if-at-text.branch
+read c = ⊎_elim (λ w. subst (Said c.before) (sym w.q-is) w.below_zero-q.ensures) (λ w. subst (Said c.before) (sym w.q-is) w.number-q.ensures) c.if-at-text.branch-raw
 
 -- and is kept as it is
 kept : (c : tie.After-struct_told-1 invariant-loop decreases-loop) → let z = c.if-at-text.q.value in to_z w64 (of_z w64 z) ≡ z
@@ -26,7 +26,7 @@ kept c = to_z-of_z w64 _ (record { sfits = omega (arith, c.struct_told-1.given) 
 
 -- the byte that closes it stands below the minus and the digits
 closing : (c : tie.Joined-i-n invariant-loop decreases-loop) → c.if-i-n.c < 45
-closing c = ⊎_elim (λ w. rw w.1 (lit< tt)) (λ w. rw w.1 (lit< tt)) c.if-i-n.branch
+closing c = ⊎_elim (λ w. rw w.c-is (lit< tt)) (λ w. rw w.c-is (lit< tt)) c.if-i-n.branch-raw
 
 below-zero-requires : tie.Need-below_zero-q-requires invariant-loop decreases-loop
 below-zero-requires c κs = let there = c.before.before.before in (closing there.before, there.if-at-text.true)
@@ -44,7 +44,7 @@ returns-2 c =
     let q = c.before.before.before.before in
     let j = q.before in
     let l = j.loop-i in
-    let h : j.if-i-n.c ≡ 10 = ⊎_elim (λ w. w.1) (λ w. absurd (w.0.left c.if-i-n-2.true)) j.if-i-n.branch in
+    let h : j.if-i-n.c ≡ 10 = ⊎_elim (λ w. w.c-is) (λ w. absurd (w.if-i-n.false c.if-i-n-2.true)) j.if-i-n.branch-raw in
     rw (kept c.before) (last l.invariant j.loop-i-test.true _ c.if-i-n-2.true (rw h at (read q)))
 
 loop-again : tie.Need-loop-i-preserved invariant-loop decreases-loop
@@ -52,7 +52,7 @@ loop-again c =
     let q = c.before.before.before.before in
     let j = q.before in
     let l = j.loop-i in
-    let h : j.if-i-n.c ≡ 44 = ⊎_elim (λ w. absurd (c.if-i-n-2.false w.0.taken)) (λ w. w.1) j.if-i-n.branch in
+    let h : j.if-i-n.c ≡ 44 = ⊎_elim (λ w. absurd (c.if-i-n-2.false w.if-i-n.true)) (λ w. w.c-is) j.if-i-n.branch-raw in
     rw (kept c.before) (more l.invariant j.loop-i-test.true _ (rw h at (read q c.if-q-eq0.false)))
 
 pub row_spec : {M : Type 1} → statement M
