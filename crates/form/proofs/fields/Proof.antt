@@ -53,14 +53,14 @@ returns c =
     c.refuse.ensures
     ∙ sym (fields_wrong _ _ 0 _ (pieces 44 v)
     (λ e. ⊎_elim (λ w. omega (arith, pieces-count 44 v))
-    (λ w. eqb-false w.1.result (a.n - 1) (not-true _ w.2.taken) (omega (arith, pieces-count 44 v, w.1.ensures))) c.then-n-eq0.branch))
+    (λ w. w.if-count-n.true (omega (arith, pieces-count 44 v, w.count.ensures))) c.then-n-eq0.branch-raw))
 
 loop-holds : tie.Need-loop-i-init invariant-loop decreases-loop
 loop-holds c =
     let a = c.args in
     let v = a.v.now in
     rw (left-all v)
-    (refl, omega (arith, pieces-count 44 v, c.count.ensures, eqb-true c.count.result (a.n - 1) (not-false _ c.if-count-n.false)))
+    (refl, omega (arith, pieces-count 44 v, c.count.ensures, c.if-count-n.false))
 
 part-number-end : tie.Need-slice_bounds-number-end invariant-loop decreases-loop
 part-number-end c = omega (arith, step c)
@@ -70,7 +70,7 @@ returns-2 c =
     let p = c.before.before.before in
     let s = (step p.before).first in
     let l = (turn p).loop-i in
-    c.refuse-in-NotANumber.ensures ∙ sym (fields-bad _ _ _ _ _ _ (rw s at l.inv.1) (sym (text p) ∙ c.enum_told-1.given.1)) ∙ rw s at l.inv.0
+    c.refuse-in-NotANumber.ensures ∙ sym (fields-bad _ _ _ _ _ _ (rw s at l.invariant.1) (sym (text p) ∙ c.in-NotANumber.is)) ∙ rw s at l.invariant.0
 
 add_at : tie.Need-overflow_add-at invariant-loop decreases-loop
 add_at c = let read = c.before.before.before in omega (arith, step read)
@@ -80,9 +80,9 @@ loop-again c =
     let p = c.before.before.before in
     let s = (step p).first in
     let l = (turn p).loop-i in
-    let z = c.before.z.given.0.0 in
+    let z = c.in-Value.z in
     let b = to_z-of_z w64 z (record { sfits = omega (arith, c.known-told.given) }) in
-    rw b (sym (fields-more _ _ _ _ _ _ z (sym (text p) ∙ c.before.z.given.1)) ∙ rw s at l.inv.0, omega (arith, ap length s))
+    rw b (sym (fields-more _ _ _ _ _ _ z (sym (text p) ∙ c.in-Value.is)) ∙ rw s at l.invariant.0, omega (arith, ap length s))
 
 returns-3 : tie.Need-returns invariant-loop decreases-loop
 returns-3 c =

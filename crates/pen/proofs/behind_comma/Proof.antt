@@ -37,10 +37,4 @@ returns c =
 pub behind_comma_spec : {M : Type 1} → statement M
 behind_comma_spec =
     tie.close
-    (tie.spec
-    (λ c. search rules)
-    (λ c κs. search rules)
-    (λ c. search rules)
-    number-at-requires
-    (λ c. search rules)
-    returns)
+    (tie.spec (λ c. search rules) (λ c. search rules) number-at-requires (λ c. search rules) returns)

@@ -49,13 +49,4 @@ returns-2 c =
 pub number_at_spec : {M : Type 1} → statement M
 number_at_spec =
     tie.close
-    (tie.spec
-    (λ c κs. search rules)
-    (λ c. search rules)
-    bytes-at-requires
-    digits-at-requires
-    (λ c. search rules)
-    returns
-    digits-at-requires-2
-    (λ c. search rules)
-    returns-2)
+    (tie.spec (λ c. search rules) bytes-at-requires digits-at-requires (λ c. search rules) returns digits-at-requires-2 (λ c. search rules) returns-2)

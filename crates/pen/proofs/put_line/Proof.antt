@@ -60,12 +60,4 @@ returns c =
 pub put_line_spec : {M : Type 1} → statement M
 put_line_spec =
     tie.close
-    (tie.spec
-    bytes-at-requires
-    (λ c. search rules)
-    bytes-at-requires-2
-    number-at-requires
-    (λ c. search rules)
-    bytes-at-requires-3
-    (λ c. search rules)
-    returns)
+    (tie.spec bytes-at-requires bytes-at-requires-2 number-at-requires bytes-at-requires-3 (λ c. search rules) returns)

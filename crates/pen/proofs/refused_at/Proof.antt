@@ -81,11 +81,4 @@ returns c =
 pub refused_at_spec : {M : Type 1} → statement M
 refused_at_spec =
     tie.close
-    (tie.spec
-    (λ c. search rules)
-    (λ c κs. search rules)
-    (λ c. search rules)
-    number-at-requires
-    behind-comma-requires
-    (λ c. search rules)
-    returns)
+    (tie.spec (λ c. search rules) (λ c. search rules) number-at-requires behind-comma-requires (λ c. search rules) returns)
