@@ -3,13 +3,13 @@ use Rattle.quantity.proofs.Casts.{casts}
 use Rattle.burning.proofs.brought.Statement.{statement}
 use Rattle.burning.proofs.brought.Tie as tie
 
-cast-t4 : tie.Need-overflow-cast-t4
+cast-t4 : tie.Need-overflow_cast-result
 cast-t4 c = search casts
 
-mul-t5 : tie.Need-overflow-mul-t5
+mul-t5 : tie.Need-overflow_mul-result
 mul-t5 c = search casts
 
-mul-t6 : tie.Need-overflow-mul-t6
+mul-t6 : tie.Need-overflow_mul-result-2
 mul-t6 c = search casts
 
 returns : tie.Need-returns

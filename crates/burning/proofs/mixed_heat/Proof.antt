@@ -6,23 +6,23 @@ use Rattle.quantity.proofs.Casts.{casts, widened, widens}
 use Rattle.burning.proofs.mixed_heat.Statement.{statement}
 use Rattle.burning.proofs.mixed_heat.Tie as tie
 
-mul-t3 : tie.Need-overflow-mul-t3
+mul-t3 : tie.Need-overflow_mul-result
 mul-t3 c = search rules
 
-cast-t4 : tie.Need-overflow-cast-t4
+cast-t4 : tie.Need-overflow_cast-result
 cast-t4 c = search casts
 
 -- the start, from where the temperature is read
-abbrev start : tie.After-struct-told3 → tie.Start
+abbrev start : tie.After-struct_told-3-1 → tie.Start
 start c = let rise = c.before.before in rise.before.before.before.before
 
-narrow : (c : tie.After-struct-told3) → SFits w32 (start c).args.at.0
+narrow : (c : tie.After-struct_told-3-1) → SFits w32 (start c).args.at.0
 narrow c = search rules
 
-mul-t5 : tie.Need-overflow-mul-t5
+mul-t5 : tie.Need-overflow_mul-result-2
 mul-t5 c = rw (widened (narrow c)) (search rules)
 
-add-t6 : tie.Need-overflow-add-t6
+add-t6 : tie.Need-overflow_add-result
 add-t6 c = rw (widened (narrow c)) (search rules)
 
 returns : tie.Need-returns

@@ -12,26 +12,26 @@ use Rattle.burning.proofs.q1.Tie as tie
 abbrev burnt : Mx
 burnt = from w32 (arg 0) ⟨*⟩ from w32 (arg 1)
 
-cast-t3 : tie.Need-overflow-cast-t3
-cast-t3 c = fits (limits c.before.before.requires.gas ∷ []) w64 (from w32 (arg 0)) tt
+cast-t3 : tie.Need-overflow_cast-result
+cast-t3 c = fits (limits c.requires.gas ∷ []) w64 (from w32 (arg 0)) tt
 
-cast-t4 : tie.Need-overflow-cast-t4
-cast-t4 c = fits (limits c.before.before.before.before.requires.heating ∷ []) w64 (from w32 (arg 0)) tt
+cast-t4 : tie.Need-overflow_cast-result-2
+cast-t4 c = fits (limits c.requires.heating ∷ []) w64 (from w32 (arg 0)) tt
 
-mul-t5 : tie.Need-overflow-mul-t5
+mul-t5 : tie.Need-overflow_mul-result
 mul-t5 c =
-    let p = c.before.before.before.before.requires in
+    let p = c.requires in
     fits (limits p.gas ∷ limits p.heating ∷ []) w64 burnt tt
 
-mul-t6 : tie.Need-overflow-mul-t6
+mul-t6 : tie.Need-overflow_mul-result-2
 mul-t6 c =
-    let p = c.before.before.before.before.requires in
+    let p = c.requires in
     fits (limits p.gas ∷ limits p.heating ∷ []) w64 (burnt ⟨*⟩ num (pos 100)) tt
 
 returns : tie.Need-returns
 unfolding q1
 returns c =
-    let p = c.before.before.before.before.requires in
+    let p = c.requires in
     let ks = limits p.gas ∷ limits p.heating ∷ [] in
     let e = result ks w64 (burnt ⟨*⟩ num (pos 100)) tt in
     λ f e₁ e₂. rw (e₁, e₂, e) (record { is = units; size = most ks (burnt ⟨*⟩ num (pos 100)) tt })

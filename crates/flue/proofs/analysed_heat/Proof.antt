@@ -17,17 +17,17 @@ use Rattle.flue.proofs.analysed_heat.Statement.{statement}
 use Rattle.flue.proofs.analysed_heat.Tie as tie
 
 -- c of each gas is the definition's
-co : (c : tie.After-column-at) → c.column-at.result ≡ column_at (λ g. g.co) c.before.args.t
-co c = c.column-at.ensures ∙ column-is (λ g. g.co) c.before.args.t refl
+co : (c : tie.After-column_at) → c.column_at.result ≡ column_at (λ g. g.co) c.args.t
+co c = c.column_at.ensures ∙ column-is (λ g. g.co) c.args.t refl
 
-co2 : (c : tie.After-column-at2) → c.column-at2.result ≡ column_at (λ g. g.co2) c.before.before.args.t
-co2 c = c.column-at2.ensures ∙ column-is (λ g. g.co2) c.before.before.args.t refl
+co2 : (c : tie.After-column_at-2) → c.column_at-2.result ≡ column_at (λ g. g.co2) c.args.t
+co2 c = c.column_at-2.ensures ∙ column-is (λ g. g.co2) c.args.t refl
 
-o2 : (c : tie.After-column-at3) → c.column-at3.result ≡ column_at (λ g. g.o2) c.before.before.before.args.t
-o2 c = c.column-at3.ensures ∙ column-is (λ g. g.o2) c.before.before.before.args.t refl
+o2 : (c : tie.After-column_at-3) → c.column_at-3.result ≡ column_at (λ g. g.o2) c.args.t
+o2 c = c.column_at-3.ensures ∙ column-is (λ g. g.o2) c.args.t refl
 
-n2 : (c : tie.After-column-at4) → c.column-at4.result ≡ column_at (λ g. g.n2) c.before.before.before.before.args.t
-n2 c = c.column-at4.ensures ∙ column-is (λ g. g.n2) c.before.before.before.before.args.t refl
+n2 : (c : tie.After-column_at-4) → c.column_at-4.result ≡ column_at (λ g. g.n2) c.args.t
+n2 c = c.column_at-4.ensures ∙ column-is (λ g. g.n2) c.args.t refl
 
 -- a share of any of them
 term : (n t : ℕ) (gas : FlueGases → ℕ) {r : ℕ} → n ≤ 10000 → T (all (λ g. leb (gas g) entry_most) (no_row ∷ flue_table))
@@ -37,25 +37,25 @@ term n t gas h k e = rw e (mul-le-mul h (column-most gas entry_most k t))
 shares : (c : tie.Start) → c.args.co + c.args.pair + c.args.oxygen ≤ analysis_most
 shares c = c.requires.0
 
-first : (c : tie.After-column-at) → c.before.args.co * c.column-at.result ≤ 10000 * (entry_most * 1000)
+first : (c : tie.After-column_at) → c.args.co * c.column_at.result ≤ 10000 * (entry_most * 1000)
 first c =
-    let few : c.before.args.co ≤ 10000 = omega (arith, shares c.before) in
-    term c.before.args.co c.before.args.t (λ g. g.co) few tt (co c)
+    let few : c.args.co ≤ 10000 = omega (arith, shares c.before) in
+    term c.args.co c.args.t (λ g. g.co) few tt (co c)
 
-second : (c : tie.After-column-at2) → c.before.before.args.pair * c.column-at2.result ≤ 10000 * (entry_most * 1000)
+second : (c : tie.After-column_at-2) → c.args.pair * c.column_at-2.result ≤ 10000 * (entry_most * 1000)
 second c =
-    let few : c.before.before.args.pair ≤ 10000 = omega (arith, shares c.before.before) in
-    term c.before.before.args.pair c.before.before.args.t (λ g. g.co2) few tt (co2 c)
+    let few : c.args.pair ≤ 10000 = omega (arith, shares c.before.before) in
+    term c.args.pair c.args.t (λ g. g.co2) few tt (co2 c)
 
-third : (c : tie.After-column-at3) → c.before.before.before.args.oxygen * c.column-at3.result ≤ 10000 * (entry_most * 1000)
+third : (c : tie.After-column_at-3) → c.args.oxygen * c.column_at-3.result ≤ 10000 * (entry_most * 1000)
 third c =
-    let few : c.before.before.before.args.oxygen ≤ 10000 = omega (arith, shares c.before.before.before) in
-    term c.before.before.before.args.oxygen c.before.before.before.args.t (λ g. g.o2) few tt (o2 c)
+    let few : c.args.oxygen ≤ 10000 = omega (arith, shares c.before.before.before) in
+    term c.args.oxygen c.args.t (λ g. g.o2) few tt (o2 c)
 
 abbrev rest : tie.Start → ℕ
 rest c = 10000 - (c.args.co + c.args.pair + c.args.oxygen)
 
-fourth : (c : tie.After-column-at4) → rest c.before.before.before.before * c.column-at4.result ≤ 10000 * (entry_most * 1000)
+fourth : (c : tie.After-column_at-4) → rest c.before.before.before.before * c.column_at-4.result ≤ 10000 * (entry_most * 1000)
 fourth c =
     let s = c.before.before.before.before in
     let few : rest s ≤ 10000 = omega arith in
@@ -71,13 +71,13 @@ analysed_heat_spec =
     (tie.spec (λ c. search rules) (λ c. search rules) (λ c. search rules)
     (λ c κs. record { entries = search rules; hot = c.requires.1 })
     (λ c. record { fits = omega (arith, first c) })
-    (λ c κs. record { entries = search rules; hot = c.before.requires.1 })
+    (λ c κs. record { entries = search rules; hot = c.requires.1 })
     (λ c. record { fits = omega (arith, second c) })
     (λ c. record { fits = omega (arith, first c.before, second c) })
-    (λ c κs. record { entries = search rules; hot = c.before.before.requires.1 })
+    (λ c κs. record { entries = search rules; hot = c.requires.1 })
     (λ c. record { fits = omega (arith, third c) })
     (λ c. record { fits = omega (arith, first c.before.before, second c.before, third c) })
-    (λ c κs. record { entries = search rules; hot = c.before.before.before.requires.1 })
+    (λ c κs. record { entries = search rules; hot = c.requires.1 })
     (λ c. record { fits = omega (arith, fourth c) })
     (λ c. record { fits = omega (arith, first c.before.before.before, second c.before.before, third c.before, fourth c) })
     returns)

@@ -6,35 +6,30 @@ use native.Mathlib.Omega.{arith}
 use borrow.Author.Rules.{rules}
 use lib.Dec.{lit<}
 use lib.ListN.{get_or}
-use Rattle.flue.specs.Steps.{entry_most}
+use mathlib.Core.List.{List}
+use Rattle.flue.specs.Steps.{entry_most, ColumnIn}
 use Rattle.flue.proofs.Columns.{entry-most}
 use Rattle.flue.proofs.column_at.Statement.{statement}
 use Rattle.flue.proofs.column_at.Tie as tie
 
--- the row below the flue's temperature, and the one above it
-abbrev row : tie.Start → ℕ
-row c = c.args.t / 1000
+-- an entry by the part of the way to it from the row above, and from the row below
+before : (column : List ℕ) (t : ℕ) → ColumnIn column t → (i : ℕ) → get_or column i 0 * (t % 1000) ≤ entry_most * 1000
+before column t h i =
+    let less : t % 1000 < 1000 = mod-lt t (lit< tt) in
+    let most : t % 1000 ≤ 1000 = omega (arith, less) in
+    mul-le-mul (entry-most column h.entries i) most
 
-abbrev next : tie.Start → ℕ
-next c = c.args.t / 1000 + 1
-
-before : (c : tie.Start) (i : ℕ) → get_or c.args.t1 i 0 * (c.args.t % 1000) ≤ entry_most * 1000
-before c i =
-    let less : c.args.t % 1000 < 1000 = mod-lt c.args.t (lit< tt) in
-    let most : c.args.t % 1000 ≤ 1000 = omega (arith, less) in
-    mul-le-mul (entry-most c.args.t1 c.requires.entries i) most
-
-behind : (c : tie.Start) (i : ℕ) → get_or c.args.t1 i 0 * (1000 - c.args.t % 1000) ≤ entry_most * 1000
-behind c i =
-    let most : 1000 - c.args.t % 1000 ≤ 1000 = omega arith in
-    mul-le-mul (entry-most c.args.t1 c.requires.entries i) most
+behind : (column : List ℕ) (t : ℕ) → ColumnIn column t → (i : ℕ) → get_or column i 0 * (1000 - t % 1000) ≤ entry_most * 1000
+behind column t h i =
+    let most : 1000 - t % 1000 ≤ 1000 = omega arith in
+    mul-le-mul (entry-most column h.entries i) most
 
 pub column_at_spec : {M : Type 1} → statement M
 column_at_spec =
     tie.close
     (tie.spec (λ c. search rules) (λ c. search rules) (λ c. search rules)
-    (λ c. record { fits = omega (arith, before c (row c), behind c (row c)) })
+    (λ c. record { fits = omega (arith, behind c.args.column c.args.t c.requires (c.args.t / 1000)) })
     (λ c. search rules) (λ c. search rules) (λ c. search rules)
-    (λ c. record { fits = omega (arith, before c (next c), behind c (next c)) })
-    (λ c. record { fits = omega (arith, before c (row c), behind c (row c), before c (next c), behind c (next c)) })
+    (λ c. record { fits = omega (arith, before c.args.column c.args.t c.requires (c.args.t / 1000 + 1)) })
+    (λ c. record { fits = omega (arith, behind c.args.column c.args.t c.requires (c.args.t / 1000), before c.args.column c.args.t c.requires (c.args.t / 1000 + 1)) })
     (λ c. search rules))

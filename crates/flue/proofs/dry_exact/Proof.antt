@@ -3,10 +3,10 @@ use Rattle.quantity.proofs.Casts.{casts}
 use Rattle.flue.proofs.dry_exact.Statement.{statement}
 use Rattle.flue.proofs.dry_exact.Tie as tie
 
-cast-t3 : tie.Need-overflow-cast-t3
+cast-t3 : tie.Need-overflow_cast-result
 cast-t3 c = search casts
 
-mul-t4 : tie.Need-overflow-mul-t4
+mul-t4 : tie.Need-overflow_mul-result
 mul-t4 c = search casts
 
 returns : tie.Need-returns

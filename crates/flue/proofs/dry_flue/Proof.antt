@@ -25,24 +25,24 @@ aired = (raw 1 ⟨-⟩ num (pos 210)) ⟨*⟩ raw 3
 abbrev each : Mx
 each = raw 2 ⟨+⟩ aired
 
-dry-rate-requires : tie.Need-dry-rate-requires
+dry-rate-requires : tie.Need-dry_rate-requires
 dry-rate-requires c κs =
     let ks = known c.requires in
     record { more = fit ks (raw 1 ⟨-⟩ num (pos 210)) tt; aired = fit ks aired tt; all = fit ks each tt }
 
-dry-exact-requires : tie.Need-dry-exact-requires
-dry-exact-requires c κs = rw c.dry-rate.ensures (fit (known c.before.requires) (raw 0 ⟨*⟩ each) tt)
+dry-exact-requires : tie.Need-dry_exact-requires
+dry-exact-requires c κs = rw c.dry_rate.ensures (fit (known c.requires) (raw 0 ⟨*⟩ each) tt)
 
 units-requires : tie.Need-units-requires
-units-requires c κs = rw c.dry-exact.ensures (search rules)
+units-requires c κs = rw c.dry_exact.ensures (search rules)
 
 returns : tie.Need-returns
 unfolding dry_flue
 returns told =
     let c = told.before in
     let fits : SFits w64 c.units.result.0 = search rules in
-    rounded (known c.before.before.before.requires) (raw 0 ⟨*⟩ each) (10 ^ 5) 1 tt (exactly refl)
-    (rw (to_z-of_z fits, c.units.ensures, c.before.dry-exact.ensures, c.before.before.dry-rate.ensures))
+    rounded (known c.requires) (raw 0 ⟨*⟩ each) (10 ^ 5) 1 tt (exactly refl)
+    (rw (to_z-of_z fits, c.units.ensures, c.dry_exact.ensures, c.dry_rate.ensures))
 
 pub dry_flue_spec : {M : Type 1} → statement M
 dry_flue_spec = tie.close (tie.spec dry-rate-requires dry-exact-requires units-requires returns)

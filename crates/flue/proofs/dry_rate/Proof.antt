@@ -3,16 +3,16 @@ use Rattle.quantity.proofs.Casts.{casts}
 use Rattle.flue.proofs.dry_rate.Statement.{statement}
 use Rattle.flue.proofs.dry_rate.Tie as tie
 
-cast-t3 : tie.Need-overflow-cast-t3
+cast-t3 : tie.Need-overflow_cast-result
 cast-t3 c = search casts
 
-sub-t4 : tie.Need-overflow-sub-t4
+sub-t4 : tie.Need-overflow_sub-result
 sub-t4 c = search casts
 
-mul-t5 : tie.Need-overflow-mul-t5
+mul-t5 : tie.Need-overflow_mul-result
 mul-t5 c = search casts
 
-add-t6 : tie.Need-overflow-add-t6
+add-t6 : tie.Need-overflow_add-result
 add-t6 c = search casts
 
 returns : tie.Need-returns

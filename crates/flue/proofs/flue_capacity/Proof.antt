@@ -48,18 +48,18 @@ other {a} e = sym (twice a) ∙ ap not e
     twice true = refl
     twice false = refl
 
-returns : tie.Need-returns
-returns c = unread c.before.before.before.args.stage (other c.if1.true)
+returns : tie.Need-returns-then-not-analysis
+returns c = unread c.args.stage (other c.if-not-analysis.true)
 
 -- the start, and what is known of it, where the flue was analysed
-abbrev start : tie.Else1 → tie.Start
+abbrev start : tie.Else-not-analysis → tie.Start
 start c = c.before.before.before
 
-abbrev x : tie.Else1 → Stageˢ
+abbrev x : tie.Else-not-analysis → Stageˢ
 x c = (start c).args.stage
 
-holds : (c : tie.Else1) → AnalysisIn (x c).flue.0 (x c).co.0 (said (x c))
-holds c = kept (x c) (other c.if1.false) (start c).requires
+holds : (c : tie.Else-not-analysis) → AnalysisIn (x c).flue.0 (x c).co.0 (said (x c))
+holds c = kept (x c) (other c.if-not-analysis.false) (start c).requires
 
 co-fits : (c : tie.Start) → SFits w16 c.args.stage.co.0
 co-fits c = search rules
@@ -77,26 +77,26 @@ flue-fits c = search rules
 sized : {z : ℤ} {B : ℕ} → pos 0 ≤ℤ z → z ≤ℤ pos B → B < 2 ^ 64 → T (non_neg z) × Fits w64 (nat_abs z)
 sized low high less = (yes_non_neg low, record { fits = lt_of_le_of_lt (abs≤⁺ low high) less })
 
-cast-co : tie.Need-overflow-cast-co
+cast-co : tie.Need-overflow_cast-co
 cast-co c =
     let e = c.before.before in
     let h = (start e).requires.co in
     rw (to_z-of_z (co-fits (start e))) (sized h.low h.high (lit< tt))
 
-cast-pair : tie.Need-overflow-cast-pair
+cast-pair : tie.Need-overflow_cast-pair
 cast-pair c =
     let e = c.before.before.before.before in
     let h = (holds e).pair in
     rw (to_z-of_z (pair_fits (start e))) (sized h.low h.high (lit< tt))
 
-cast-oxygen : tie.Need-overflow-cast-oxygen
+cast-oxygen : tie.Need-overflow_cast-oxygen
 cast-oxygen c =
     let pair = c.before.before in
     let e = pair.before.before.before.before in
     let h = (holds e).oxygen in
     rw (to_z-of_z (oxygen-fits (start e))) (sized h.low h.high (lit< tt))
 
-cast_t : tie.Need-overflow-cast-t
+cast_t : tie.Need-overflow_cast-t
 cast_t c =
     let pair = c.before.before.before.before in
     let e = pair.before.before.before.before in
@@ -104,7 +104,7 @@ cast_t c =
     rw (to_z-of_z (flue-fits (start e))) (sized h.low h.high (lit< tt))
 
 -- CO, the pair and oxygen as sizes
-together : (c : tie.Else1) → nat_abs (x c).co.0 + nat_abs (x c).analysis.pair.0 + nat_abs (x c).analysis.oxygen.0 ≤ analysis_most
+together : (c : tie.Else-not-analysis) → nat_abs (x c).co.0 + nat_abs (x c).analysis.pair.0 + nat_abs (x c).analysis.oxygen.0 ≤ analysis_most
 together c =
     let h = holds c in
     omega (
@@ -116,7 +116,7 @@ together c =
       abs-pos h.oxygen.low,
     )
 
-analysed-heat-requires : tie.Need-analysed-heat-requires
+analysed-heat-requires : tie.Need-analysed_heat-heat-requires
 analysed-heat-requires c κs =
     let pair = c.before.before.before.before in
     let e = pair.before.before.before.before in
@@ -125,19 +125,19 @@ analysed-heat-requires c κs =
     (together e, abs≤⁺ (holds e).flue.low (holds e).flue.high)
 
 -- the heat that it is, and that it is small
-abbrev heat : tie.After-analysed-heat → tie.Else1
+abbrev heat : tie.After-analysed_heat-heat → tie.Else-not-analysis
 heat c =
     let t = c.before in
     let pair = t.before.before.before.before in
     pair.before.before.before.before
 
-worth : (c : tie.After-analysed-heat) → let y = x (heat c) in
-    c.analysed-heat.result ≡ analysed_heat (nat_abs y.co.0) (nat_abs y.analysis.pair.0) (nat_abs y.analysis.oxygen.0) (nat_abs y.flue.0)
+worth : (c : tie.After-analysed_heat-heat) → let y = x (heat c) in
+    c.analysed_heat-heat.result ≡ analysed_heat (nat_abs y.co.0) (nat_abs y.analysis.pair.0) (nat_abs y.analysis.oxygen.0) (nat_abs y.flue.0)
 worth c =
     let s = start (heat c) in
-    rw (to_z-of_z (co-fits s), to_z-of_z (pair_fits s), to_z-of_z (oxygen-fits s), to_z-of_z (flue-fits s)) at c.analysed-heat.ensures
+    rw (to_z-of_z (co-fits s), to_z-of_z (pair_fits s), to_z-of_z (oxygen-fits s), to_z-of_z (flue-fits s)) at c.analysed_heat-heat.ensures
 
-cast-t10 : tie.Need-overflow-cast-t10
+cast-t10 : tie.Need-overflow_cast-heat
 cast-t10 c =
     let e = heat c in
     let y = x e in
@@ -148,13 +148,13 @@ cast-t10 c =
 units-requires : tie.Need-units-requires
 units-requires c κs = search rules
 
-returns-2 : tie.Need-returns-2
+returns-2 : tie.Need-returns
 unfolding nearest
 returns-2 told =
     let u = told.before in
     let c = u.before in
     let fits : SFits w64 u.units.result.0 = search rules in
-    rw (to_z-of_z fits, u.units.ensures, to_z-of_z (cast-t10 c), worth c) (is_read (x (heat c)) (other (heat c).if1.false))
+    rw (to_z-of_z fits, u.units.ensures, to_z-of_z (cast-t10 c), worth c) (is_read (x (heat c)) (other (heat c).if-not-analysis.false))
 
 pub flue_capacity_spec : {M : Type 1} → statement M
 flue_capacity_spec =

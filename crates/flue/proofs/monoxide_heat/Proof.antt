@@ -17,7 +17,7 @@ returns c =
     let p = s.requires in
     λ b v.
     rounded (within p.volume ∷ limits p.stage.co ∷ []) (raw 0 ⟨*⟩ raw 1 ⟨*⟩ num (pos 12750)) (10 ^ 6) (joule / 10 ^ 6) tt
-    (finer (times (times v.is s.args.stage.co.0) (pos 12750)) (joule / 10 ^ 11)) (rw (c.joules.ensures, c.before.unburnt.ensures))
+    (finer (times (times v.is s.args.stage.co.0) (pos 12750)) (joule / 10 ^ 11)) (rw (c.joules.ensures, c.unburnt.ensures))
 
 unburnt-requires : tie.Need-unburnt-requires
 unburnt-requires c κs =

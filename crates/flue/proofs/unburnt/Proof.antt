@@ -6,16 +6,16 @@ use Rattle.quantity.proofs.Casts.{widened16, widens16}
 use Rattle.flue.proofs.unburnt.Statement.{statement}
 use Rattle.flue.proofs.unburnt.Tie as tie
 
-narrow : (c : tie.After-struct-told) → SFits w16 c.before.before.args.co.0
+narrow : (c : tie.After-struct_told-1) → SFits w16 c.args.co.0
 narrow c = search rules
 
-cast-t3 : tie.Need-overflow-cast-t3
+cast-t3 : tie.Need-overflow_cast-result
 cast-t3 c = widens16 (narrow c)
 
-mul-t4 : tie.Need-overflow-mul-t4
+mul-t4 : tie.Need-overflow_mul-result
 mul-t4 c = rw (widened16 (narrow c.before.before)) (search rules)
 
-mul-t5 : tie.Need-overflow-mul-t5
+mul-t5 : tie.Need-overflow_mul-result-2
 mul-t5 c = rw (widened16 (narrow c.before.before)) (search rules)
 
 returns : tie.Need-returns

@@ -6,13 +6,13 @@ use Rattle.quantity.proofs.Casts.{casts, widened}
 use Rattle.flue.proofs.vapour_exact.Statement.{statement}
 use Rattle.flue.proofs.vapour_exact.Tie as tie
 
-narrow : (c : tie.After-struct-told) → SFits w32 c.before.before.args.gas.0
+narrow : (c : tie.After-struct_told-1) → SFits w32 c.args.gas.0
 narrow c = search rules
 
-cast-t3 : tie.Need-overflow-cast-t3
+cast-t3 : tie.Need-overflow_cast-result
 cast-t3 c = search casts
 
-mul-t4 : tie.Need-overflow-mul-t4
+mul-t4 : tie.Need-overflow_mul-result
 mul-t4 c = search casts
 
 returns : tie.Need-returns

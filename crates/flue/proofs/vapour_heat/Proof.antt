@@ -14,23 +14,23 @@ use Rattle.flue.proofs.vapour_heat.Tie as tie
 degrees-requires : tie.Need-degrees-requires
 degrees-requires c κs = search rules
 
-above-requires : tie.Need-above-requires
+above-requires : tie.Need-above-rise-requires
 above-requires c κs =
-    let p = c.before.requires in
+    let p = c.requires in
     rw c.degrees.ensures (fit (limits (flue_in _ p.moist.burns.stage) ∷ limits p.ambient ∷ []) (raw 0 ⟨-⟩ raw 1) tt)
 
 vapour-requires : tie.Need-vapour-requires
 vapour-requires c κs = search rules
 
-vapour-carried-requires : tie.Need-vapour-carried-requires
+vapour-carried-requires : tie.Need-vapour_carried-requires
 vapour-carried-requires c κs =
-    let p = c.before.before.before.requires in
+    let p = c.requires in
     let ks = within c.vapour.ensures.size ∷ limits (flue_in _ p.moist.burns.stage) ∷ limits p.ambient ∷ [] in
-    rw (c.before.above.ensures, c.before.before.degrees.ensures)
+    rw (c.above-rise.ensures, c.degrees.ensures)
     (record { one = fit ks (raw 0 ⟨*⟩ num (pos 193)) tt; all = fit ks (raw 0 ⟨*⟩ num (pos 193) ⟨*⟩ (raw 1 ⟨-⟩ raw 2)) tt })
 
 joules-requires : tie.Need-joules-requires
-joules-requires c κs = rw c.vapour-carried.ensures (search rules)
+joules-requires c κs = rw c.vapour_carried.ensures (search rules)
 
 returns : tie.Need-returns
 unfolding vapour_heat
@@ -45,7 +45,7 @@ returns c =
     rounded (within mass.size ∷ limits (flue_in _ s.requires.moist.burns.stage) ∷ limits s.requires.ambient ∷ [])
     (raw 0 ⟨*⟩ num (pos 193) ⟨*⟩ (raw 1 ⟨-⟩ raw 2)) (10 ^ 6) (joule / 10 ^ 6) tt
     (finer (times (times mass.is (pos 193)) rise) (joule / (56 * 10 ^ 17)))
-    (rw (c.joules.ensures, carried.vapour-carried.ensures, above.above.ensures, degrees.degrees.ensures))
+    (rw (c.joules.ensures, carried.vapour_carried.ensures, above.above-rise.ensures, degrees.degrees.ensures))
 
 pub vapour_heat_spec : {M : Type 1} → statement M
 vapour_heat_spec =

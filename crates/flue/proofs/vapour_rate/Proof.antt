@@ -25,7 +25,7 @@ moist = num (pos 1293) ⟨*⟩ raw 0 ⟨*⟩ raw 1 ⟨*⟩ raw 2
 abbrev all : Mx
 all = moist ⟨*⟩ num (pos 56) ⟨+⟩ raw 3
 
-rate-exact-requires : tie.Need-rate-exact-requires
+rate-exact-requires : tie.Need-rate_exact-requires
 rate-exact-requires c κs =
     let ks = known c.requires in
     record {
@@ -37,14 +37,14 @@ rate-exact-requires c κs =
     }
 
 units-requires : tie.Need-units-requires
-units-requires c κs = rw c.rate-exact.ensures (search rules)
+units-requires c κs = rw c.rate_exact.ensures (search rules)
 
 returns : tie.Need-returns
 unfolding vapour_rate
 returns told =
     let c = told.before in
     let fits : SFits w64 c.units.result.0 = search rules in
-    rounded (known c.before.before.requires) all (56 * 10 ^ 7) 1 tt (exactly refl) (rw (to_z-of_z fits, c.units.ensures, c.before.rate-exact.ensures))
+    rounded (known c.requires) all (56 * 10 ^ 7) 1 tt (exactly refl) (rw (to_z-of_z fits, c.units.ensures, c.rate_exact.ensures))
 
 pub vapour_rate_spec : {M : Type 1} → statement M
 vapour_rate_spec = tie.close (tie.spec rate-exact-requires units-requires returns)

@@ -15,41 +15,41 @@ use Rattle.surface.proofs.convection.Statement.{statement}
 use Rattle.surface.proofs.convection.Tie as tie
 
 -- the start, from where the rise is read
-abbrev start : tie.After-struct-told → tie.Start
+abbrev start : tie.After-struct_told-1 → tie.Start
 start c = c.before.before
 
-rise-fits : (c : tie.After-struct-told) → SFits w64 (start c).args.rise.0
+rise-fits : (c : tie.After-struct_told-1) → SFits w64 (start c).args.rise.0
 rise-fits c = search rules
 
-cast-size : tie.Need-overflow-cast-size
+cast-size : tie.Need-overflow_cast-size
 cast-size c =
     let p = (start c).requires.0 in
     rw (to_z-of_z (rise-fits c)) (yes_non_neg p.low, record { fits = lt_of_le_of_lt (abs≤⁺ p.low p.high) (lit< tt) })
 
-mul-first-term : tie.Need-overflow-mul-first-term
+mul-first-term : tie.Need-offset_bounds-at
 mul-first-term c = search rules
 
-array-read-first-term : tie.Need-array-read-first-term
+array-read-first-term : tie.Need-bounds-at
 array-read-first-term c = search rules
 
-first-term-requires : tie.Need-first-term-requires
+first-term-requires : tie.Need-first_term-requires
 first-term-requires c κs =
-    let p = (start c).requires.0 in
-    rw (to_z-of_z (rise-fits c)) (placed-most (start c).args.place.0, abs≤⁺ p.low p.high, (start c).requires.1)
+    let p = (start c.before.before).requires.0 in
+    rw (to_z-of_z (rise-fits c.before.before)) (placed-most (start c.before.before).args.place.0, abs≤⁺ p.low p.high, (start c.before.before).requires.1)
 
 units-requires : tie.Need-units-requires
-units-requires c κs = rw c.first-term.ensures (search rules)
+units-requires c κs = rw c.first_term.ensures (search rules)
 
 returns : tie.Need-returns
 unfolding nearest
 returns told =
     let c = told.before in
     let read = c.before.before in
-    let p = (start read).requires.0 in
+    let p = (start read.before.before).requires.0 in
     let fits : SFits w64 c.units.result.0 = search rules in
-    let term = rw (to_z-of_z (rise-fits read)) at c.before.first-term.ensures in
+    let term = rw (to_z-of_z (rise-fits read.before.before)) at c.first_term.ensures in
     rw (to_z-of_z fits, c.units.ensures, term)
-    (record { is = refl; size = record { size = term_most (placed-most (start read).args.place.0) (abs≤⁺ p.low p.high) } })
+    (record { is = refl; size = record { size = term_most (placed-most (start read.before.before).args.place.0) (abs≤⁺ p.low p.high) } })
 
 pub convection_spec : {M : Type 1} → statement M
 convection_spec = tie.close (tie.spec cast-size mul-first-term array-read-first-term first-term-requires units-requires returns)

@@ -8,10 +8,10 @@ use Rattle.surface.proofs.Terms.{product-most}
 use Rattle.surface.proofs.first_term.Statement.{statement}
 use Rattle.surface.proofs.first_term.Tie as tie
 
-product : (c : tie.After-known) → c.before.args.a * c.before.args.rise * c.known.result ≤ placed_most * warmer_most * fourth_root_most
-product c = rw c.known.ensures (product-most c.before.requires.0 c.before.requires.1)
+product : (c : tie.After-known) → c.args.a * c.args.rise * c.known.result ≤ placed_most * warmer_most * fourth_root_most
+product c = rw c.known.ensures (product-most c.requires.0 c.requires.1)
 
-small : tie.Need-overflow-cast-t7
+small : tie.Need-overflow_cast-result
 small c = record { sfits = omega (arith, product c) }
 
 pub first_term_spec : {M : Type 1} → statement M

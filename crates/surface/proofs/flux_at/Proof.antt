@@ -16,13 +16,13 @@ above-requires c κs =
     let p = c.requires.0.reading in
     fit (limits p.surface ∷ limits p.air ∷ []) (raw 0 ⟨-⟩ raw 1) tt
 
-convection-requires : tie.Need-convection-requires
+convection-requires : tie.Need-convection-first-requires
 convection-requires c κs =
-    let p = c.before.requires.0 in
+    let p = c.requires.0 in
     let ks = limits p.reading.surface ∷ limits p.reading.air ∷ [] in
     rw c.above.ensures (
       record { place = omega (arithℤ, p.section.place.high); low = sub_nonneg p.reading.warmer; high = at_most ks (raw 0 ⟨-⟩ raw 1) tt },
-      c.before.requires.1,
+      c.requires.1,
     )
 
 degrees-requires : tie.Need-degrees-requires
@@ -31,26 +31,26 @@ degrees-requires c κs = search rules
 degrees-requires-2 : tie.Need-degrees-requires-2
 degrees-requires-2 c κs = search rules
 
-radiation-requires : tie.Need-radiation-requires
+radiation-requires : tie.Need-radiation-second-requires
 radiation-requires c κs =
-    let p = c.before.before.before.before.requires.0.reading in
-    rw (c.before.degrees.ensures, c.degrees2.ensures) (record { surface = p.surface; air = p.air })
+    let p = c.requires.0.reading in
+    rw (c.degrees.ensures, c.degrees-2.ensures) (record { surface = p.surface; air = p.air })
 
 both-requires : tie.Need-both-requires
 both-requires c κs =
     let first = c.before.before.before in
-    let r = first.before.before.args.reading in
-    let second = c.radiation.ensures (wall_of r) (sym c.before.before.degrees.ensures) (sym c.before.degrees2.ensures) in
-    fit (within first.convection.ensures.size ∷ within second.size ∷ []) (raw 0 ⟨+⟩ raw 1) tt
+    let r = first.args.reading in
+    let second = c.radiation-second.ensures (wall_of r) (sym c.degrees.ensures) (sym c.degrees-2.ensures) in
+    fit (within first.convection-first.ensures.size ∷ within second.size ∷ []) (raw 0 ⟨+⟩ raw 1) tt
 
 returns : tie.Need-returns
 unfolding flux convection
 returns c =
     let warm = c.before.before.before.before in
-    let first = warm.convection.ensures in
-    let rise = warm.before.above.ensures in
+    let first = warm.convection-first.ensures in
+    let rise = warm.above.ensures in
     λ w e₁ e₂.
-    let second = c.before.radiation.ensures w (e₁ ∙ sym c.before.before.before.degrees.ensures) (e₂ ∙ sym c.before.before.degrees2.ensures) in
+    let second = c.radiation-second.ensures w (e₁ ∙ sym c.degrees.ensures) (e₂ ∙ sym c.degrees-2.ensures) in
     let is = rw (rise, ← e₁, ← e₂) at first.is in
     rw c.both.ensures
     (record { is = plus (same is units) second.is; size = most (within first.size ∷ within second.size ∷ []) (raw 0 ⟨+⟩ raw 1) tt })

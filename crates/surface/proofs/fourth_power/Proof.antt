@@ -3,19 +3,19 @@ use Rattle.quantity.proofs.Casts.{casts}
 use Rattle.surface.proofs.fourth_power.Statement.{statement}
 use Rattle.surface.proofs.fourth_power.Tie as tie
 
-cast-k : tie.Need-overflow-cast-k
+cast-k : tie.Need-overflow_cast-k
 cast-k c = search casts
 
-add-k : tie.Need-overflow-add-k
+add-k : tie.Need-overflow_add-k
 add-k c = search casts
 
-mul-t3 : tie.Need-overflow-mul-t3
+mul-t3 : tie.Need-overflow_mul-result
 mul-t3 c = search casts
 
-mul-t4 : tie.Need-overflow-mul-t4
+mul-t4 : tie.Need-overflow_mul-result-2
 mul-t4 c = search casts
 
-mul-t5 : tie.Need-overflow-mul-t5
+mul-t5 : tie.Need-overflow_mul-result-3
 mul-t5 c = search casts
 
 returns : tie.Need-returns

@@ -12,11 +12,11 @@ use Rattle.surface.proofs.Terms.{first-root-most}
 use Rattle.surface.proofs.fourth_roots.Statement.{statement}
 use Rattle.surface.proofs.fourth_roots.Tie as tie
 
-first-requires : tie.Need-floor-roots-requires
-first-requires c κs = (omega arith, omega arith, λ k h. lt_of_le_of_lt (c.each-times.ensures k h).1 (lit< tt))
+first-requires : tie.Need-floor_roots-first-requires
+first-requires c κs = (omega arith, omega arith, λ k h. lt_of_le_of_lt (c.each_times.ensures k h).1 (lit< tt))
 
-second-requires : tie.Need-floor-roots-requires-2
-second-requires c κs = (omega arith, omega arith, λ k h. lt_of_le_of_lt (c.each-times2.ensures k h).1 (lit< tt))
+second-requires : tie.Need-floor_roots-requires
+second-requires c κs = (omega arith, omega arith, λ k h. lt_of_le_of_lt (c.each_times-2.ensures k h).1 (lit< tt))
 
 returns : tie.Need-returns
 returns c =
@@ -27,11 +27,11 @@ returns c =
     record {
       is =
           λ most.
-          let rise = get_or start.before.args.rises k 0 in
-          let square : get_or first.floor-roots.result k 0 ≡ root (rise * 10 ^ 15) =
-          rw first.floor-roots.ensures (root-at start.each-times.result k ∙ ap root ((start.each-times.ensures k h).0 (omega (arith, most)))) in
-          let small : get_or first.floor-roots.result k 0 ≤ 2 * 10 ^ 9 = rw square (omega (arith, first-root-most (mul-le-mul_right (10 ^ 15) most))) in
-          rw c.floor-roots2.ensures (root-at second.each-times2.result k ∙ ap root (rw square at ((second.each-times2.ensures k h).0 small)));
+          let rise = get_or start.args.rises k 0 in
+          let square : get_or first.floor_roots-first.result k 0 ≡ root (rise * 10 ^ 15) =
+          rw first.floor_roots-first.ensures (root-at start.each_times.result k ∙ ap root ((start.each_times.ensures k h).0 (omega (arith, most)))) in
+          let small : get_or first.floor_roots-first.result k 0 ≤ 2 * 10 ^ 9 = rw square (omega (arith, first-root-most (mul-le-mul_right (10 ^ 15) most))) in
+          rw c.floor_roots.ensures (root-at second.each_times-2.result k ∙ ap root (rw square at ((second.each_times-2.ensures k h).0 small)));
     }
 
 pub fourth_roots_spec : {M : Type 1} → statement M

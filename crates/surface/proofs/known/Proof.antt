@@ -7,10 +7,10 @@ use Rattle.formulas.specs.Sizes.{warmer_most}
 use Rattle.surface.proofs.known.Statement.{statement}
 use Rattle.surface.proofs.known.Tie as tie
 
-returns : tie.Need-returns
+returns : tie.Need-returns-then-noted-rise
 returns c =
     let s = c.before.before in
-    let same = c.if1.true in
+    let same = c.if-noted-rise.true in
     let in-range = subst (λ (x : ℕ). x ≤ warmer_most) (sym same) s.requires.0 in
     subst (λ (x : ℕ). s.args.noted.root ≡ fourth_root x) same (s.requires.1.is in-range)
 

@@ -38,16 +38,16 @@ fourth-fits h =
       four = fit ks (power 0) tt;
     }
 
-fourth-power-requires : tie.Need-fourth-power-requires
+fourth-power-requires : tie.Need-fourth_power-requires
 fourth-power-requires c κs = fourth-fits (sized c.requires.surface tt)
 
-fourth-power-requires-2 : tie.Need-fourth-power-requires-2
-fourth-power-requires-2 c κs = fourth-fits (sized c.before.requires.air tt)
+fourth-power-requires-2 : tie.Need-fourth_power-requires-2
+fourth-power-requires-2 c κs = fourth-fits (sized c.requires.air tt)
 
 radiated-requires : tie.Need-radiated-requires
 radiated-requires c κs =
-    let ks = known c.before.before.requires in
-    rw (c.before.fourth-power.ensures, c.fourth-power2.ensures)
+    let ks = known c.requires in
+    rw (c.fourth_power.ensures, c.fourth_power-2.ensures)
     (record { difference = fit ks (power 0 ⟨-⟩ power 1) tt; all = fit ks (num (pos 454) ⟨*⟩ (power 0 ⟨-⟩ power 1)) tt })
 
 units-requires : tie.Need-units-requires
@@ -61,8 +61,8 @@ returns told =
     let air = c.before.before in
     let surface = air.before in
     λ w e₁ e₂.
-    rw (e₁, e₂) (rounded (known surface.before.requires) (num (pos 454) ⟨*⟩ (power 0 ⟨-⟩ power 1)) (10 ^ 9) 1 tt (exactly refl)
-    (rw (to_z-of_z fits, c.units.ensures, c.before.radiated.ensures, air.fourth-power2.ensures, surface.fourth-power.ensures)))
+    rw (e₁, e₂) (rounded (known surface.requires) (num (pos 454) ⟨*⟩ (power 0 ⟨-⟩ power 1)) (10 ^ 9) 1 tt (exactly refl)
+    (rw (to_z-of_z fits, c.units.ensures, c.radiated.ensures, air.fourth_power-2.ensures, surface.fourth_power.ensures)))
 
 pub radiation_spec : {M : Type 1} → statement M
 radiation_spec =

@@ -24,27 +24,27 @@ none-rooted zero g k = zero-rooted
 none-rooted (suc n) zero k = rw (zero_at side k) zero-rooted
 none-rooted (suc n) (suc g) k = none-rooted n g k
 
-abbrev invariant-loop : tie.invariant-loop
+abbrev invariant-loop : tie.invariant-loop-g
 invariant-loop count rises groups₀ full g₀ groups g = (g ≤ full) × (full ≤ groups_most) × (length groups ≡ groups_most) × AllRooted groups
 
-abbrev decreases-loop : tie.decreases-loop
+abbrev decreases-loop : tie.decreases-loop-g
 decreases-loop count rises groups₀ full g₀ groups g = full - g
 
-loop-holds : tie.Need-loop-init invariant-loop decreases-loop
+loop-holds : tie.Need-loop-g-init invariant-loop decreases-loop
 loop-holds c = (omega arith, omega arith, refl, λ g k h. none-rooted groups_most g k)
 
-loop-again : tie.Need-loop-preserved invariant-loop decreases-loop
+loop-again : tie.Need-loop-g-preserved invariant-loop decreases-loop
 loop-again c =
     let l = c.before.before.before in
     let Is : ℕ → Group → Type 0 = λ g x. EachRooted x.rises x.roots in (
       omega arith,
       omega arith,
-      simp length-set l.loop.invariant.2,
-      λ g. set-one Is no_group l.loop.groups l.loop.g _ (omega arith) c.fourth-roots.ensures g (λ d. l.loop.invariant.3 g),
+      simp length-set l.loop-g.invariant.2,
+      λ g. set-one Is no_group l.loop-g.groups l.loop-g.g _ (omega arith) c.fourth_roots-roots.ensures g (λ d. l.loop-g.invariant.3 g),
     )
 
 pub side_by_side_spec : {M : Type 1} → statement M
 side_by_side_spec =
     tie.close
     (tie.spec invariant-loop decreases-loop (λ c. search rules) (λ c κs. search rules) loop-holds (λ c. omega arith) (λ c. omega arith)
-    (λ c κs. search rules) (λ c. omega arith) (λ c. omega arith) (λ c. omega arith) (λ c. omega arith) loop-again (λ c. c.before.loop.invariant.3))
+    (λ c κs. search rules) (λ c. omega arith) (λ c. omega arith) (λ c. omega arith) (λ c. omega arith) loop-again (λ c. c.loop-g.invariant.3))

@@ -6,13 +6,13 @@ use borrow.Author.Rules.{rules}
 use Rattle.surface.proofs.times.Statement.{statement}
 use Rattle.surface.proofs.times.Tie as tie
 
-fits : tie.Need-overflow-mul-result
+fits : tie.Need-overflow_mul-result
 fits c =
     let s = c.before in
-    record { fits = lt_of_le_of_lt (mul-le-mul_right s.args.by c.if1.true) s.requires }
+    record { fits = lt_of_le_of_lt (mul-le-mul_right s.args.by c.if-x-most.true) s.requires }
 
-returns : tie.Need-returns
-returns c = (λ h. refl, mul-le-mul_right c.before.args.by c.if1.true)
+returns : tie.Need-returns-then-x-most
+returns c = (λ h. refl, mul-le-mul_right c.args.by c.if-x-most.true)
 
 pub times_spec : {M : Type 1} → statement M
-times_spec = tie.close (tie.spec fits returns (λ c. (λ h. absurd (omega (arith, c.if1.false)), omega arith)))
+times_spec = tie.close (tie.spec fits returns (λ c. (λ h. absurd (omega (arith, c.if-x-most.false)), omega arith)))

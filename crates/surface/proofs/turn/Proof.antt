@@ -5,10 +5,10 @@ use borrow.Author.Rules.{rules}
 use Rattle.surface.proofs.turn.Statement.{statement}
 use Rattle.surface.proofs.turn.Tie as tie
 
-mul-held : tie.Need-overflow-mul-held
+mul-held : tie.Need-overflow_mul-i
 mul-held c = record { fits = omega (arith, mul-le-mul c.requires.0 c.requires.2) }
 
-add-held : tie.Need-overflow-add-held
+add-held : tie.Need-overflow_add-i
 add-held c = record { fits = omega (arith, mul-le-mul c.requires.0 c.requires.2) }
 
 pub turn_spec : {M : Type 1} → statement M

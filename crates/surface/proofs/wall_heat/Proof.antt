@@ -13,13 +13,13 @@ use Rattle.surface.proofs.Terms.{wall_of}
 use Rattle.surface.proofs.wall_heat.Statement.{statement}
 use Rattle.surface.proofs.wall_heat.Tie as tie
 
-flux-at-requires : tie.Need-flux-at-requires
+flux-at-requires : tie.Need-flux_at-requires
 flux-at-requires c κs = search rules
 
 lost-requires : tie.Need-lost-requires
 lost-requires c κs =
     let s = c.before in
-    let flux = c.flux-at.ensures (wall_of s.args.reading) refl refl in
+    let flux = c.flux_at.ensures (wall_of s.args.reading) refl refl in
     let ks = within flux.size ∷ limits s.requires.0.wall.section.area ∷ limits s.requires.0.stage.minutes ∷ [] in
     record {
       one = fit ks (raw 0 ⟨*⟩ raw 1) tt;
@@ -34,7 +34,7 @@ returns : tie.Need-returns
 unfolding wall_heat
 returns c =
     let s = c.before.before.before in
-    let flux = c.before.before.flux-at in
+    let flux = c.flux_at in
     let a = s.args.section.area.0 in
     let m = s.args.stage.minutes.0 in
     λ w e₁ e₂.
@@ -43,7 +43,7 @@ returns c =
     let sixty = finer (times (times (times at.is a) m) (pos 60)) (joule / 10 ^ 16) in
     rounded (within at.size ∷ limits s.requires.0.wall.section.area ∷ limits s.requires.0.stage.minutes ∷ [])
     (raw 0 ⟨*⟩ raw 1 ⟨*⟩ raw 2 ⟨*⟩ num (pos 6)) (10 ^ 6) (joule / 10 ^ 6) tt
-    (coarser 10 (same ten sixty)) (rw (c.joules.ensures, c.before.lost.ensures))
+    (coarser 10 (same ten sixty)) (rw (c.joules.ensures, c.lost.ensures))
 
 pub wall_heat_spec : {M : Type 1} → statement M
 wall_heat_spec = tie.close (tie.spec flux-at-requires lost-requires joules-requires returns)

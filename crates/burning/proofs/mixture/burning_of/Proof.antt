@@ -10,70 +10,70 @@ use Rattle.burning.proofs.Shares.{airs, dries, vapours, so_far, column-next, col
 use Rattle.burning.proofs.mixture.burning_of.Statement.{statement}
 use Rattle.burning.proofs.mixture.burning_of.Tie as tie
 
-abbrev invariant-loop : tie.invariant-loop
+abbrev invariant-loop : tie.invariant-loop-i
 invariant-loop shares kinds sum₀ i₀ sum i =
     (i ≤ gases)
     × (sum.air ≡ so_far (λ k. k.air) shares i)
     × (sum.dry ≡ so_far (λ k. k.dry) shares i)
     × (sum.vapour ≡ so_far (λ k. k.vapour) shares i)
 
-abbrev decreases-loop : tie.decreases-loop
+abbrev decreases-loop : tie.decreases-loop-i
 decreases-loop shares kinds sum₀ i₀ sum i = gases - i
 
 -- the loop, from where a gas and its share are read
-abbrev L : tie.After-burning-with-arg invariant-loop decreases-loop → tie.At-loop invariant-loop decreases-loop
+abbrev L : tie.After-burning_with-arg-1 invariant-loop decreases-loop → tie.At-loop-i invariant-loop decreases-loop
 L c = c.before.before.before
 
-loop-holds : tie.Need-loop-init invariant-loop decreases-loop
+loop-holds : tie.Need-loop-i-init invariant-loop decreases-loop
 loop-holds c = (omega arith, refl, refl, refl)
 
-mul-kind : tie.Need-overflow-mul-kind invariant-loop decreases-loop
+mul-kind : tie.Need-offset_bounds-kinds-i invariant-loop decreases-loop
 mul-kind c = omega arith
 
-array-copy-out-kind : tie.Need-array-copy-out-kind invariant-loop decreases-loop
+array-copy-out-kind : tie.Need-bounds-kinds-i invariant-loop decreases-loop
 array-copy-out-kind c = omega arith
 
-mul-burning-with : tie.Need-overflow-mul-burning-with invariant-loop decreases-loop
+mul-burning-with : tie.Need-offset_bounds-gas-i invariant-loop decreases-loop
 mul-burning-with c = omega arith
 
-array-copy-out-burning-with : tie.Need-array-copy-out-burning-with invariant-loop decreases-loop
+array-copy-out-burning-with : tie.Need-bounds-gas-i invariant-loop decreases-loop
 array-copy-out-burning-with c = omega arith
 
-burning-with-requires : tie.Need-burning-with-requires invariant-loop decreases-loop
+burning-with-requires : tie.Need-burning_with-sum-requires invariant-loop decreases-loop
 burning-with-requires c κs =
-    let l = (L c).loop in
+    let l = (L c).loop-i in
     let s = (L c).before in
-    let shares = s.args.t1 in
+    let shares = s.args.gas in
     let h : l.i < gases = omega arith in
     record {
-      air = column_fits (λ k. k.air) refl shares l.i h l.inv.1 butane_air s.pre tt tt;
-      dry = column_fits (λ k. k.dry) refl shares l.i h l.inv.2 butane_dry s.pre tt tt;
-      vapour = column_fits (λ k. k.vapour) refl shares l.i h l.inv.3 butane_vapour s.pre tt tt;
+      air = column_fits (λ k. k.air) refl shares l.i h l.invariant.1 butane_air s.requires tt tt;
+      dry = column_fits (λ k. k.dry) refl shares l.i h l.invariant.2 butane_dry s.requires tt tt;
+      vapour = column_fits (λ k. k.vapour) refl shares l.i h l.invariant.3 butane_vapour s.requires tt tt;
     }
 
-add-i : tie.Need-overflow-add-i invariant-loop decreases-loop
+add-i : tie.Need-overflow_step-i invariant-loop decreases-loop
 add-i c = search rules
 
-loop-less : tie.Need-loop-smaller invariant-loop decreases-loop
+loop-less : tie.Need-loop-i-smaller invariant-loop decreases-loop
 loop-less c = search rules
 
-loop-again : tie.Need-loop-preserved invariant-loop decreases-loop
+loop-again : tie.Need-loop-i-preserved invariant-loop decreases-loop
 loop-again c =
-    let l = (L c.before).loop in
-    let shares = (L c.before).before.args.t1 in
+    let l = (L c.before).loop-i in
+    let shares = (L c.before).args.gas in
     let h : l.i < gases = omega arith in
-    let e = c.burning-with.ensures in (
+    let e = c.burning_with-sum.ensures in (
       omega arith,
-      column-next (λ k. k.air) refl shares l.i h l.inv.1 e.air,
-      column-next (λ k. k.dry) refl shares l.i h l.inv.2 e.dry,
-      column-next (λ k. k.vapour) refl shares l.i h l.inv.3 e.vapour,
+      column-next (λ k. k.air) refl shares l.i h l.invariant.1 e.air,
+      column-next (λ k. k.dry) refl shares l.i h l.invariant.2 e.dry,
+      column-next (λ k. k.vapour) refl shares l.i h l.invariant.3 e.vapour,
     )
 
 returns : tie.Need-returns invariant-loop decreases-loop
 returns c =
     let s = c.before.before in
-    let l = c.before.loop in
-    let shares = s.args.t1 in
+    let l = c.loop-i in
+    let shares = s.args.gas in
     let end : l.i ≡ gases = omega arith in
     let air = l.invariant.1 ∙ ap (so_far (λ k. k.air) shares) end in
     let dry = l.invariant.2 ∙ ap (so_far (λ k. k.dry) shares) end in

@@ -19,65 +19,65 @@ use Rattle.burning.proofs.mixture.warmth_of.Tie as tie
 abbrev rise : Kind → ℤ
 rise k = k.hot -ℤ k.cold
 
-abbrev invariant-loop : tie.invariant-loop
+abbrev invariant-loop : tie.invariant-loop-i
 invariant-loop shares kinds sum₀ i₀ sum i = (i ≤ gases) × (sum.cold ≡ so_far (λ k. k.cold) shares i) × (sum.rise ≡ so_far rise shares i)
 
-abbrev decreases-loop : tie.decreases-loop
+abbrev decreases-loop : tie.decreases-loop-i
 decreases-loop shares kinds sum₀ i₀ sum i = gases - i
 
 -- the loop, from where a gas and its share are read
-abbrev L : tie.After-warmth-with-arg invariant-loop decreases-loop → tie.At-loop invariant-loop decreases-loop
+abbrev L : tie.After-warmth_with-arg-1 invariant-loop decreases-loop → tie.At-loop-i invariant-loop decreases-loop
 L c = c.before.before.before
 
-loop-holds : tie.Need-loop-init invariant-loop decreases-loop
+loop-holds : tie.Need-loop-i-init invariant-loop decreases-loop
 loop-holds c = (omega arith, refl, refl)
 
-mul-kind : tie.Need-overflow-mul-kind invariant-loop decreases-loop
+mul-kind : tie.Need-offset_bounds-kinds-i invariant-loop decreases-loop
 mul-kind c = omega arith
 
-array-copy-out-kind : tie.Need-array-copy-out-kind invariant-loop decreases-loop
+array-copy-out-kind : tie.Need-bounds-kinds-i invariant-loop decreases-loop
 array-copy-out-kind c = omega arith
 
-mul-warmth-with : tie.Need-overflow-mul-warmth-with invariant-loop decreases-loop
+mul-warmth-with : tie.Need-offset_bounds-gas-i invariant-loop decreases-loop
 mul-warmth-with c = omega arith
 
-array-copy-out-warmth-with : tie.Need-array-copy-out-warmth-with invariant-loop decreases-loop
+array-copy-out-warmth-with : tie.Need-bounds-gas-i invariant-loop decreases-loop
 array-copy-out-warmth-with c = omega arith
 
-warmth-with-requires : tie.Need-warmth-with-requires invariant-loop decreases-loop
+warmth-with-requires : tie.Need-warmth_with-sum-requires invariant-loop decreases-loop
 warmth-with-requires c κs =
-    let l = (L c).loop in
+    let l = (L c).loop-i in
     let s = (L c).before in
-    let shares = s.args.t1 in
+    let shares = s.args.gas in
     let h : l.i < gases = omega arith in
     record {
       difference = sfits_abs (lt_of_le_of_lt (column-size rise refl shares l.i h rise_most tt) (lit< tt));
-      cold = column_fits (λ k. k.cold) refl shares l.i h l.inv.1 cold_most s.pre tt tt;
-      rise = column_fits rise refl shares l.i h l.inv.2 rise_most s.pre tt tt;
+      cold = column_fits (λ k. k.cold) refl shares l.i h l.invariant.1 cold_most s.requires tt tt;
+      rise = column_fits rise refl shares l.i h l.invariant.2 rise_most s.requires tt tt;
     }
 
-add-i : tie.Need-overflow-add-i invariant-loop decreases-loop
+add-i : tie.Need-overflow_step-i invariant-loop decreases-loop
 add-i c = search rules
 
-loop-less : tie.Need-loop-smaller invariant-loop decreases-loop
+loop-less : tie.Need-loop-i-smaller invariant-loop decreases-loop
 loop-less c = search rules
 
-loop-again : tie.Need-loop-preserved invariant-loop decreases-loop
+loop-again : tie.Need-loop-i-preserved invariant-loop decreases-loop
 loop-again c =
-    let l = (L c.before).loop in
-    let shares = (L c.before).before.args.t1 in
+    let l = (L c.before).loop-i in
+    let shares = (L c.before).args.gas in
     let h : l.i < gases = omega arith in
-    let e = c.warmth-with.ensures in (
+    let e = c.warmth_with-sum.ensures in (
       omega arith,
-      column-next (λ k. k.cold) refl shares l.i h l.inv.1 e.cold,
-      column-next rise refl shares l.i h l.inv.2 e.rise,
+      column-next (λ k. k.cold) refl shares l.i h l.invariant.1 e.cold,
+      column-next rise refl shares l.i h l.invariant.2 e.rise,
     )
 
 returns : tie.Need-returns invariant-loop decreases-loop
 returns c =
     let s = c.before.before in
-    let l = c.before.loop in
-    let shares = s.args.t1 in
+    let l = c.loop-i in
+    let shares = s.args.gas in
     let end : l.i ≡ gases = omega arith in
     let cold = l.invariant.1 ∙ ap (so_far (λ k. k.cold) shares) end in
     let risen = l.invariant.2 ∙ ap (so_far rise shares) end in

@@ -6,32 +6,32 @@ use Rattle.quantity.proofs.Casts.{widened, widens}
 use Rattle.burning.proofs.mixture.warmth_with.Statement.{statement}
 use Rattle.burning.proofs.mixture.warmth_with.Tie as tie
 
-narrow : (c : tie.After-struct-told) → SFits w32 c.before.before.args.share.0
+narrow : (c : tie.After-struct_told-1) → SFits w32 c.args.share.0
 narrow c = search rules
 
 -- where the share is read, from the sum at 0 °C; and that sum, from the one of the rise
-abbrev cold : tie.After-struct-told3 → tie.After-struct-told
+abbrev cold : tie.After-struct_told-3-1 → tie.After-struct_told-1
 cold c = c.before.before.before.before
 
-abbrev rise : tie.After-struct-told5 → tie.After-struct-told3
+abbrev rise : tie.After-struct_told-5-1 → tie.After-struct_told-3-1
 rise c = c.before.before.before.before
 
-cast-hundredths : tie.Need-overflow-cast-hundredths
+cast-hundredths : tie.Need-overflow_cast-hundredths
 cast-hundredths c = widens (narrow c)
 
-mul-t5 : tie.Need-overflow-mul-t5
+mul-t5 : tie.Need-overflow_mul-result
 mul-t5 c = rw (widened (narrow c.before.before)) (search rules)
 
-add-t6 : tie.Need-overflow-add-t6
+add-t6 : tie.Need-overflow_add-result
 add-t6 c = rw (widened (narrow (cold c))) (search rules)
 
-sub-t7 : tie.Need-overflow-sub-t7
+sub-t7 : tie.Need-overflow_sub-result
 sub-t7 c = search rules
 
-mul-t8 : tie.Need-overflow-mul-t8
+mul-t8 : tie.Need-overflow_mul-result-2
 mul-t8 c = rw (widened (narrow (cold c.before.before))) (search rules)
 
-add-t9 : tie.Need-overflow-add-t9
+add-t9 : tie.Need-overflow_add-result-2
 add-t9 c = rw (widened (narrow (cold (rise c)))) (search rules)
 
 returns : tie.Need-returns

@@ -3,10 +3,10 @@ use Rattle.quantity.proofs.Casts.{casts}
 use Rattle.solids.proofs.material.given.Statement.{statement}
 use Rattle.solids.proofs.material.given.Tie as tie
 
-cast-t2 : tie.Need-overflow-cast-t2
+cast-t2 : tie.Need-overflow_cast-result
 cast-t2 c = search casts
 
-mul-t3 : tie.Need-overflow-mul-t3
+mul-t3 : tie.Need-overflow_mul-result
 mul-t3 c = search casts
 
 returns : tie.Need-returns

@@ -33,13 +33,13 @@ boiled-requires : tie.Need-boiled-requires
 boiled-requires c κs = boiled-fits 25 (lit≤ tt) c.requires.entry
 
 boiled-requires-2 : tie.Need-boiled-requires-2
-boiled-requires-2 c κs = boiled-fits 450 (lit≤ tt) c.before.requires.entry
+boiled-requires-2 c κs = boiled-fits 450 (lit≤ tt) c.requires.entry
 
-two-waters-requires : tie.Need-two-waters-requires
+two-waters-requires : tie.Need-two_waters-requires
 two-waters-requires c κs =
-    let p = c.before.before.requires in
+    let p = c.requires in
     let ks = limits p.water.adsorbed ∷ limits p.water.crystal ∷ limits p.entry ∷ [] in
-    rw (c.before.boiled.ensures, c.boiled2.ensures)
+    rw (c.boiled.ensures, c.boiled-2.ensures)
     (record {
       first = fit ks (raw 0 ⟨*⟩ boil 2 25) tt;
       second = fit ks (raw 1 ⟨*⟩ boil 2 450) tt;
@@ -47,16 +47,16 @@ two-waters-requires c κs =
     })
 
 joules-requires : tie.Need-joules-requires
-joules-requires c κs = rw c.two-waters.ensures (search rules)
+joules-requires c κs = rw c.two_waters.ensures (search rules)
 
 returns : tie.Need-returns
 unfolding water_heat
 returns c =
-    let p = c.before.before.before.before.requires in
+    let p = c.requires in
     let ks = limits p.water.adsorbed ∷ limits p.water.crystal ∷ limits p.entry ∷ [] in
     λ f e₁ e₂.
     rw (e₁, e₂) (rounded ks (raw 0 ⟨*⟩ boil 2 25 ⟨+⟩ raw 1 ⟨*⟩ boil 2 450) 10 (joule / 10) tt units
-    (rw (c.joules.ensures, c.before.two-waters.ensures, c.before.before.boiled2.ensures, c.before.before.before.boiled.ensures)))
+    (rw (c.joules.ensures, c.two_waters.ensures, c.boiled-2.ensures, c.boiled.ensures)))
 
 pub water_heat_spec : {M : Type 1} → statement M
 water_heat_spec = tie.close (tie.spec boiled-requires boiled-requires-2 two-waters-requires joules-requires returns)

@@ -17,25 +17,25 @@ bracket = num (pos 2490000) ⟨+⟩ num (pos 193) ⟨*⟩ (raw 2 ⟨-⟩ raw 3)
 returns : tie.Need-returns
 unfolding x2
 returns c =
-    let p = c.before.before.before.before.requires in
+    let p = c.requires in
     let ks = limits p.water.adsorbed ∷ limits p.water.crystal ∷ limits p.water.flue ∷ limits p.ambient ∷ [] in
     λ f e₁ e₂.
     rw (e₁, e₂) (rounded ks ((raw 0 ⟨+⟩ raw 1) ⟨*⟩ bracket) 10 (joule / 10) tt units
-    (rw (c.joules.ensures, c.before.steam.ensures, c.before.before.above.ensures, c.before.before.before.degrees.ensures)))
+    (rw (c.joules.ensures, c.steam.ensures, c.above.ensures, c.degrees.ensures)))
 
 degrees-requires : tie.Need-degrees-requires
 degrees-requires c κs = search rules
 
 above-requires : tie.Need-above-requires
 above-requires c κs =
-    let p = c.before.requires in
+    let p = c.requires in
     rw c.degrees.ensures (fit (limits p.water.flue ∷ limits p.ambient ∷ []) (raw 0 ⟨-⟩ raw 1) tt)
 
 steam-requires : tie.Need-steam-requires
 steam-requires c κs =
-    let p = c.before.before.requires in
+    let p = c.requires in
     let ks = limits p.water.adsorbed ∷ limits p.water.crystal ∷ limits p.water.flue ∷ limits p.ambient ∷ [] in
-    rw (c.above.ensures, c.before.degrees.ensures)
+    rw (c.above.ensures, c.degrees.ensures)
     (record {
       both = fit ks (raw 0 ⟨+⟩ raw 1) tt;
       on = fit ks (num (pos 193) ⟨*⟩ (raw 2 ⟨-⟩ raw 3)) tt;

@@ -9,16 +9,16 @@ use Rattle.formulas.proofs.Sizes.{limits, most}
 use Rattle.solids.proofs.water.x3.Statement.{statement}
 use Rattle.solids.proofs.water.x3.Tie as tie
 
-cast-t2 : tie.Need-overflow-cast-t2
-cast-t2 c = fits (limits c.before.before.requires ∷ []) w64 (from w32 (arg 0)) tt
+cast-t2 : tie.Need-overflow_cast-result
+cast-t2 c = fits (limits c.requires ∷ []) w64 (from w32 (arg 0)) tt
 
-mul-t3 : tie.Need-overflow-mul-t3
-mul-t3 c = fits (limits c.before.before.requires ∷ []) w64 (from w32 (arg 0) ⟨*⟩ num (pos 108800)) tt
+mul-t3 : tie.Need-overflow_mul-result
+mul-t3 c = fits (limits c.requires ∷ []) w64 (from w32 (arg 0) ⟨*⟩ num (pos 108800)) tt
 
 returns : tie.Need-returns
 unfolding x3
 returns c =
-    let ks = limits c.before.before.requires ∷ [] in
+    let ks = limits c.requires ∷ [] in
     let e = result ks w64 (from w32 (arg 0) ⟨*⟩ num (pos 108800)) tt in
     λ f e₁. rw (e₁, e) (record { is = units; size = most ks (arg 0 ⟨*⟩ num (pos 108800)) tt })
 
