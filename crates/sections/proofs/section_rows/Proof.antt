@@ -85,7 +85,7 @@ loop-holds c =
     let a = c.before.before in
     let none-shown : SectionsShown 0 (replicate sections_most blank_section) [] =
     record { filled = none_filled section section_of blank_section sections_most; distinct = distinct_none } in
-    rw c.section.ensures (
+    rw c.section-none.ensures (
       omega arith,
       a.requires.0,
       omega arith,
