@@ -17,18 +17,18 @@ use Rattle.walls.proofs.Asked.{stages_stay, walls_pass}
 use Rattle.walls.proofs.surface_lines.Statement.{statement}
 use Rattle.walls.proofs.surface_lines.Tie as tie
 
-wall-block-requires : tie.Need-wall-block-requires
+wall-block-requires : tie.Need-wall_block-b-requires
 wall-block-requires c κs =
-    let a = c.before.section-block.ensures in
-    (a.within, record { short = c.before.before.before.requires.short; fair = (a.after [] refl).fair })
+    let a = c.section_block-a.ensures in
+    (a.within, record { short = c.requires.short; fair = (a.after [] refl).fair })
 
 returns : tie.Need-returns
 returns c =
     let walls-read = c.before.before.before in
     let sections-read = walls-read.before.before in
-    let w = walls-read.wall-block in
-    let d = sections-read.section-block in
-    let a = sections-read.before.before.args in
+    let w = walls-read.wall_block-b in
+    let d = sections-read.section_block-a in
+    let a = sections-read.args in
     let q = d.result.place in
     let q' = w.result.place in
     let S = sections_of d.result.sections in

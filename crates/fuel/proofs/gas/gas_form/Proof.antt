@@ -58,7 +58,7 @@ careful-requires c κs =
     let g = asked c.before.before.before in
     let a = start g in
     let size : length a.args.v.now ≡ fields_most = ap length a.requires.1 in
-    let kept = ⊎_elim (λ w. ap length w.5 ∙ w.3.ensures.long ∙ size) (λ w. ap length w.1 ∙ size) c.if-keyed.branch in
+    let kept = ⊎_elim (λ w. ap length w.v-is ∙ w.row-next.ensures.long ∙ size) (λ w. ap length w.v-is ∙ size) c.if-keyed.branch-raw in
     (lit≤ tt, (a.requires.0, (is-sound g, kept)))
 
 returns-3 : tie.Need-returns
@@ -69,5 +69,4 @@ returns-3 c =
 pub gas_form_spec : {M : Type 1} → statement M
 gas_form_spec =
     tie.close
-    (tie.spec (λ c. search rules) (λ c κs. (fair c.before).within) add_row (λ c. search rules) onward-requires returns (λ c. search rules)
-    careful-requires (λ c. search rules) returns-3)
+    (tie.spec (λ c κs. (fair c.before.before).within) add_row (λ c. search rules) onward-requires returns careful-requires (λ c. search rules) returns-3)

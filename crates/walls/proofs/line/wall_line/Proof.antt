@@ -27,11 +27,11 @@ held_stage x v e = count-within (held_measured stage_number (get_or v 1 (record 
 returns : tie.Need-returns
 returns c =
     let taken = c.before.before.before in
-    let t = taken.wall-of in
-    let d = taken.before.before.due in
+    let t = taken.wall_of-t in
+    let d = taken.due-d in
     let stage = held_stage t.result.wall d.result.values t.ensures.shown in
     record {
-      after = rw c.before.ranged.ensures
+      after = rw c.ranged-place.ensures
           (line_after _ _ _ wall_line d.result.values _ (λ zs. wall t.result.wall ≡ wall_of (plain zs)) d.ensures.after t.ensures);
       least = stage.low;
       most = stage.high;

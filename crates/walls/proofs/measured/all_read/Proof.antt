@@ -9,30 +9,30 @@ use Rattle.walls.proofs.Every.{every_more, every-not}
 use Rattle.walls.proofs.measured.all_read.Statement.{statement}
 use Rattle.walls.proofs.measured.all_read.Tie as tie
 
-abbrev invariant-loop : tie.invariant-loop
+abbrev invariant-loop : tie.invariant-loop-row
 invariant-loop sections stages readings row₀ row = (row ≤ sections) × (all_read readings row stages ≡ true)
 
-abbrev decreases-loop : tie.decreases-loop
+abbrev decreases-loop : tie.decreases-loop-row
 decreases-loop sections stages readings row₀ row = sections - row
 
-loop-holds : tie.Need-loop-init invariant-loop decreases-loop
+loop-holds : tie.Need-loop-row-init invariant-loop decreases-loop
 unfolding all_read every
 loop-holds c = (omega arith, refl)
 
-loop-again : tie.Need-loop-preserved invariant-loop decreases-loop
+loop-again : tie.Need-loop-row-preserved invariant-loop decreases-loop
 unfolding all_read
 loop-again c =
-    (omega arith, every_more _ _ (sym c.before.row_read.ensures ∙ c.if1.true) c.before.before.before.before.loop.invariant.1)
+    (omega arith, every_more _ _ (sym c.row_read.ensures ∙ c.if-row_read.true) c.loop-row.invariant.1)
 
-returns : tie.Need-returns invariant-loop decreases-loop
+returns : tie.Need-returns-else-row_read invariant-loop decreases-loop
 unfolding all_read
 returns c =
-    sym (every-not _ _ _ c.before.before.before.loop-test.true (sym c.before.row_read.ensures ∙ c.if1.false))
+    sym (every-not _ _ _ c.loop-row-test.true (sym c.row_read.ensures ∙ c.if-row_read.false))
 
-returns-2 : tie.Need-returns-2 invariant-loop decreases-loop
+returns-2 : tie.Need-returns invariant-loop decreases-loop
 returns-2 c =
-    let l = c.before.loop in
-    let e : c.before.before.args.sections ≡ l.row = omega arith in
+    let l = c.loop-row in
+    let e : c.args.sections ≡ l.row = omega arith in
     rw e (sym l.invariant.1)
 
 pub all_read_spec : {M : Type 1} → statement M

@@ -11,26 +11,26 @@ use Rattle.walls.proofs.Every.{every_more, every-not}
 use Rattle.walls.proofs.measured.row_read.Statement.{statement}
 use Rattle.walls.proofs.measured.row_read.Tie as tie
 
-abbrev invariant-loop : tie.invariant-loop
+abbrev invariant-loop : tie.invariant-loop-stage
 invariant-loop stages readings stage₀ stage = (stage ≤ stages) × (row_read readings stage ≡ true)
 
-abbrev decreases-loop : tie.decreases-loop
+abbrev decreases-loop : tie.decreases-loop-stage
 decreases-loop stages readings stage₀ stage = stages - stage
 
-loop-holds : tie.Need-loop-init invariant-loop decreases-loop
+loop-holds : tie.Need-loop-stage-init invariant-loop decreases-loop
 unfolding every
 loop-holds c = (omega arith, refl)
 
-loop-again : tie.Need-loop-preserved invariant-loop decreases-loop
-loop-again c = (omega arith, every_more _ _ (eq-eqb _ 1 c.if1.true) c.before.before.before.before.loop.invariant.1)
+loop-again : tie.Need-loop-stage-preserved invariant-loop decreases-loop
+loop-again c = (omega arith, every_more _ _ (eq-eqb _ 1 c.if-there-eq1.true) c.loop-stage.invariant.1)
 
-returns : tie.Need-returns invariant-loop decreases-loop
-returns c = sym (every-not _ _ _ c.before.before.before.loop-test.true (ne_eqb _ 1 c.if1.false))
+returns : tie.Need-returns-else-there-eq1 invariant-loop decreases-loop
+returns c = sym (every-not _ _ _ c.loop-stage-test.true (ne_eqb _ 1 c.if-there-eq1.false))
 
-returns-2 : tie.Need-returns-2 invariant-loop decreases-loop
+returns-2 : tie.Need-returns invariant-loop decreases-loop
 returns-2 c =
-    let l = c.before.loop in
-    let e : c.before.before.args.stages ≡ l.stage = omega arith in
+    let l = c.loop-stage in
+    let e : c.args.stages ≡ l.stage = omega arith in
     rw e (sym l.invariant.1)
 
 pub row_read_spec : {M : Type 1} → statement M

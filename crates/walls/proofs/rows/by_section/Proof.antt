@@ -10,26 +10,26 @@ use Rattle.walls.specs.Cells.{by_section}
 use Rattle.walls.proofs.rows.by_section.Statement.{statement}
 use Rattle.walls.proofs.rows.by_section.Tie as tie
 
-abbrev invariant-loop : tie.invariant-loop
+abbrev invariant-loop : tie.invariant-loop-i
 invariant-loop cells readings₀ i₀ readings i = (i ≤ sections_most) × (length readings ≡ sections_most) × (take i readings ≡ by_section (take i cells))
 
-abbrev decreases-loop : tie.decreases-loop
+abbrev decreases-loop : tie.decreases-loop-i
 decreases-loop cells readings₀ i₀ readings i = sections_most - i
 
-loop-holds : tie.Need-loop-init invariant-loop decreases-loop
+loop-holds : tie.Need-loop-i-init invariant-loop decreases-loop
 loop-holds c = (omega arith, refl, refl)
 
-loop-again : tie.Need-loop-preserved invariant-loop decreases-loop
+loop-again : tie.Need-loop-i-preserved invariant-loop decreases-loop
 loop-again c =
     let turn = c.before.before in
-    let at = turn.loop in
-    let l = turn.before.before.args.t1 in
+    let at = turn.loop-i in
+    let l = turn.args.cells in
     (omega arith, simp length-set at.invariant.1, one_more (λ row. record { stages = row }) l at.readings at.i at.invariant.2 _ (omega arith) (omega arith))
 
 returns : tie.Need-returns invariant-loop decreases-loop
 returns c =
-    let at = c.before.loop in
-    let l = c.before.before.before.args.t1 in
+    let at = c.loop-i in
+    let l = c.args.cells in
     all-filled (λ row. record { stages = row }) l at.readings at.i at.invariant.2 (omega arith) (omega arith)
 
 pub by_section_spec : {M : Type 1} → statement M

@@ -6,7 +6,7 @@ use Rattle.walls.proofs.rows.read_once.Tie as tie
 returns : tie.Need-returns
 returns c =
     let first = c.before in
-    rw (c.ruled2.ensures, first.ruled.ensures, first.before.colder.ensures)
+    rw (c.ruled.ensures, first.ruled-first.ensures, first.colder-cold.ensures)
 
 pub read_once_spec : {M : Type 1} → statement M
 read_once_spec = tie.close (tie.spec (λ c κs. search rules) (λ c κs. search rules) (λ c κs. search rules) returns)

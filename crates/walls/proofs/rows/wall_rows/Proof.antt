@@ -28,19 +28,19 @@ use Rattle.walls.proofs.rows.wall_rows.Tie as tie
 abbrev shown : List Sectionˢ → ℕ → List Section
 shown sections count = map section (take count sections)
 
-abbrev invariant-loop : tie.invariant-loop
+abbrev invariant-loop : tie.invariant-loop-i
 invariant-loop s n count stages ns cells₀ p₀ i₀ cells p i =
     (i ≤ n) × (count ≤ sections_most) × (count ≤ length ns) × Ready s p
     × ((sections : List Sectionˢ) → ns ≡ numbers sections → WallsAfter s p₀ i (shown sections count) stages p (by_section cells))
 
-abbrev decreases-loop : tie.decreases-loop
+abbrev decreases-loop : tie.decreases-loop-i
 decreases-loop s n count stages ns cells₀ p₀ i₀ cells p i = n - i
 
-loop-holds : tie.Need-loop-init invariant-loop decreases-loop
+loop-holds : tie.Need-loop-i-init invariant-loop decreases-loop
 loop-holds c =
     let a = c.before.before.before in
     let none-shown : (S : List Section) → WallsShown S unread_sections [] = unfold laid in λ S. record { lie = refl; placed = tt } in
-    rw c.before.reading.ensures (
+    rw c.reading-none.ensures (
       omega arith,
       a.requires.0,
       omega (arith, numbers-length a.args.sections c.Numbers-of.ensures),
@@ -49,46 +49,46 @@ loop-holds c =
           (WallsShown (shown sections a.args.count) unread_sections) (none-shown _) a.requires.1.fair,
     )
 
-named-wall-requires : tie.Need-named-wall-requires invariant-loop decreases-loop
-named-wall-requires c κs = let inv = c.before.before.loop.invariant in ((inv.1, inv.2), inv.3)
+named-wall-requires : tie.Need-named_wall-l-requires invariant-loop decreases-loop
+named-wall-requires c κs = let inv = c.loop-i.invariant in ((inv.1, inv.2), inv.3)
 
 -- the places that others are reached from
-abbrev cell_at : tie.After-read-once invariant-loop decreases-loop → tie.After-struct-known invariant-loop decreases-loop
+abbrev cell_at : tie.After-read_once-p invariant-loop decreases-loop → tie.After-struct_known-1 invariant-loop decreases-loop
 cell_at c = c.before.before.before
 
-abbrev line : tie.After-struct-known invariant-loop decreases-loop → tie.After-named-wall invariant-loop decreases-loop
+abbrev line : tie.After-struct_known-1 invariant-loop decreases-loop → tie.After-named_wall-l invariant-loop decreases-loop
 line c = c.before.before.before
 
-abbrev turn : tie.After-named-wall invariant-loop decreases-loop → tie.At-loop invariant-loop decreases-loop
+abbrev turn : tie.After-named_wall-l invariant-loop decreases-loop → tie.At-loop-i invariant-loop decreases-loop
 turn c = c.before.before.before
 
-abbrev start : tie.At-loop invariant-loop decreases-loop → tie.Start invariant-loop decreases-loop
+abbrev start : tie.At-loop-i invariant-loop decreases-loop → tie.Start invariant-loop decreases-loop
 start c = c.before.before.before.before
 
 -- there is a cell for the line's section and stage
-module _ (c : tie.After-struct-known invariant-loop decreases-loop) where
-  row-there : (line c).named-wall.result.row < sections_most
-  row-there = (line c).named-wall.ensures.inside
+module _ (c : tie.After-struct_known-1 invariant-loop decreases-loop) where
+  row-there : (line c).named_wall-l.result.row < sections_most
+  row-there = (line c).named_wall-l.ensures.inside
 
-  column-there : (line c).named-wall.result.wall.stage.0 - 1 < stages_most
-  column-there = omega (arith, (line c).named-wall.ensures.least, (line c).named-wall.ensures.most)
+  column-there : (line c).named_wall-l.result.wall.stage.0 - 1 < stages_most
+  column-there = omega (arith, (line c).named_wall-l.ensures.least, (line c).named_wall-l.ensures.most)
 
-loop-again : tie.Need-loop-preserved invariant-loop decreases-loop
+loop-again : tie.Need-loop-i-preserved invariant-loop decreases-loop
 loop-again c =
     let ruled = c.before.before in
     let named-at = line (cell_at ruled) in
-    let l = named-at.named-wall in
-    let at = (turn named-at).loop in
+    let l = named-at.named_wall-l in
+    let at = (turn named-at).loop-i in
     let a = (start (turn named-at)).args in
     let named = (turn named-at).before.Numbers-of.ensures in
     let w = wall l.result.wall in
     let readings = by_section at.cells in
-    let settles = settled-row at.cells at.p.line l.result ruled.read-once.result ruled.read-once.ensures in
-    let laid_in : good (settled at.p.line l.result readings) ≡ true → by_section c.if1.cells ≡ stored l.result readings =
+    let settles = settled-row at.cells at.p.line l.result ruled.read_once-p.result ruled.read_once-p.ensures in
+    let laid_in : good (settled at.p.line l.result readings) ≡ true → by_section c.if-p-eq0.cells ≡ stored l.result readings =
     ⊎_elim (λ t g. ap by_section t.2 ∙ lay-row at.cells l.result.row (column w) _
     ∙ ap (λ (x : Reading). lay readings l.result.row (column w) x) t.1.ensures)
-    (λ t g. not-both (good ruled.read-once.result) (ap good settles ∙ g) (is-bad ruled.read-once.result t.0.left))
-    c.if1.branch in (
+    (λ t g. not-both (good ruled.read_once-p.result) (ap good settles ∙ g) (is-bad ruled.read_once-p.result t.0.left))
+    c.if-p-eq0.branch in (
       omega arith,
       at.inv.1,
       at.inv.2,
@@ -101,21 +101,21 @@ loop-again c =
           let few : length (shown sections a.count) ≤ sections_most = omega (arith, at.inv.1, shown-length a.count sections room) in
           λ seen e g h. rw settles
           (next a.s.now (shown sections a.count) a.stages few seen e g h a.start at.p l.result at.i readings
-          (by_section c.if1.cells) (at.inv.4 sections same seen e g h) (l.ensures.after sections same) laid_in),
+          (by_section c.if-p-eq0.cells) (at.inv.4 sections same seen e g h) (l.ensures.after sections same) laid_in),
     )
 
-add-i : tie.Need-overflow-add-i invariant-loop decreases-loop
+add-i : tie.Need-overflow_add-i invariant-loop decreases-loop
 add-i c =
     let l = line (cell_at c.before.before) in
-    omega (arith, l.before.before.loop-test.taken, (start (turn l)).fits.n)
+    omega (arith, l.loop-i-test.taken, (start (turn l)).fits.n)
 
 returns : tie.Need-returns invariant-loop decreases-loop
 returns c =
     let turns = c.before.before in
-    let at = turns.loop in
+    let at = turns.loop-i in
     let a = (start turns).args in
     let e : at.i ≡ a.n = omega arith in
-    rw (c.by-section.ensures, ← e) (at.invariant.4 a.sections turns.before.Numbers-of.ensures)
+    rw (c.by_section-readings.ensures, ← e) (at.invariant.4 a.sections turns.before.Numbers-of.ensures)
 
 pub wall_rows_spec : {M : Type 1} → statement M
 wall_rows_spec =
@@ -127,7 +127,7 @@ wall_rows_spec =
     (λ c κs. search rules)
     loop-holds
     named-wall-requires
-    (λ c. omega (arith, (line c).named-wall.ensures.least))
+    (λ c. omega (arith, (line c).named_wall-l.ensures.least))
     (λ c. omega (arith, row-there c))
     (λ c. omega (arith, column-there c))
     row-there
