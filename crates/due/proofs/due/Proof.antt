@@ -9,11 +9,11 @@ returns : tie.Need-returns
 returns c =
     let formed = c.before in
     let a = formed.before.before.before.before in
-    let f = formed.read-form.ensures in
+    let f = formed.read_form-q.ensures in
     record {
-      after = due_form a.args.s.now a.args.p a.args.key.now a.args.n formed.read-form.result _ c.numbers.result a.requires.0
-          c.numbers.ensures f;
-      whole = c.numbers.ensures ∙ f.whole;
+      after = due_form a.args.s.now a.args.p a.args.key.now a.args.n formed.read_form-q.result _ c.numbers-values.result a.requires.0
+          c.numbers-values.ensures f;
+      whole = c.numbers-values.ensures ∙ f.whole;
     }
 
 pub due_spec : {M : Type 1} → statement M

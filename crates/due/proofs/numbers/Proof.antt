@@ -25,26 +25,26 @@ one_more r v i x h k e q =
     rw (add-one i, take-suc-set r i (record { 0 = x }) h, take-suc v i (pos 0) k, ← q, ← e)
     (map-append (λ n. n.0) (take i r) (record { 0 = x } ∷ []))
 
-abbrev invariant-loop : tie.invariant-loop
+abbrev invariant-loop : tie.invariant-loop-i
 invariant-loop v r₀ i₀ r i = (i ≤ fields_most) × (length r ≡ fields_most) × (plain_numbers (take i r) ≡ take i v)
 
-abbrev decreases-loop : tie.decreases-loop
+abbrev decreases-loop : tie.decreases-loop-i
 decreases-loop v r₀ i₀ r i = fields_most - i
 
-loop-holds : tie.Need-loop-init invariant-loop decreases-loop
+loop-holds : tie.Need-loop-i-init invariant-loop decreases-loop
 loop-holds c = (omega arith, refl, refl)
 
-loop-again : tie.Need-loop-preserved invariant-loop decreases-loop
+loop-again : tie.Need-loop-i-preserved invariant-loop decreases-loop
 loop-again c =
-    let at = c.before.before.loop in
-    let v = c.before.before.before.args.t1 in
-    let z : to_z w64 (of_z w64 (get_or v at.i (pos 0))) ≡ get_or v at.i (pos 0) = to_z-of_z (record { sfits = c.t10.given }) in
+    let at = c.loop-i in
+    let v = c.args.v in
+    let z : to_z w64 (of_z w64 (get_or v at.i (pos 0))) ≡ get_or v at.i (pos 0) = to_z-of_z {w = w64} (record { sfits = c.r-1.given }) in
     (omega arith, simp length-set at.invariant.1, one_more at.r v at.i _ (omega arith) (omega arith) z at.invariant.2)
 
 returns : tie.Need-returns invariant-loop decreases-loop
 returns c =
-    let at = c.before.loop in
-    let v = c.before.before.args.t1 in
+    let at = c.loop-i in
+    let v = c.args.v in
     let e : at.i ≡ fields_most = omega arith in
     sym (ap plain_numbers (take_all at.i at.r (omega arith))) ∙ at.invariant.2 ∙ take_all at.i v (omega arith)
 

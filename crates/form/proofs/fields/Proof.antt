@@ -7,6 +7,7 @@ use Prim.Native.Nat.{ℕ, ◌+◌, ◌-◌}
 use native.Mathlib.Omega.{arith}
 use lib.ListN.{length, take, drop}
 use mir.Syntax.{w64}
+use mir.Val.{SFits}
 use mir.ValLaws.{to_z-of_z}
 use borrow.Author.Rules.{rules}
 use borrow.Author.Tests.{eqb-true, eqb-false, not-true, not-false}
@@ -67,8 +68,8 @@ part-number-end c = omega (arith, step c)
 
 returns-2 : tie.Need-returns-in-NotANumber invariant-loop decreases-loop
 returns-2 c =
-    let p = c.before.before.before in
-    let s = (step p.before).first in
+    let p = c.before.before in
+    let s = (step p.before.before).first in
     let l = (turn p).loop-i in
     c.refuse-in-NotANumber.ensures ∙ sym (fields-bad _ _ _ _ _ _ (rw s at l.invariant.1) (sym (text p) ∙ c.in-NotANumber.is)) ∙ rw s at l.invariant.0
 
@@ -77,11 +78,12 @@ add_at c = let read = c.before.before.before in omega (arith, step read)
 
 loop-again : tie.Need-loop-i-preserved invariant-loop decreases-loop
 loop-again c =
-    let p = c.before.before.before in
-    let s = (step p).first in
+    let p = c.before in
+    let s = (step p.before.before).first in
     let l = (turn p).loop-i in
     let z = c.in-Value.z in
-    let b = to_z-of_z w64 z (record { sfits = omega (arith, c.known-told.given) }) in
+    let fits : SFits w64 z = search rules in
+    let b = to_z-of_z w64 z fits in
     rw b (sym (fields-more _ _ _ _ _ _ z (sym (text p) ∙ c.in-Value.is)) ∙ rw s at l.invariant.0, omega (arith, ap length s))
 
 returns-3 : tie.Need-returns invariant-loop decreases-loop

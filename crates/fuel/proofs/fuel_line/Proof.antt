@@ -12,10 +12,10 @@ use Rattle.fuel.proofs.fuel_line.Tie as tie
 returns : tie.Need-returns
 returns c =
     let taken = c.before.before.before in
-    let t = taken.fuel-of in
-    let d = taken.before.before.due in
-    rw c.before.ranged.ensures
+    let t = taken.fuel_of-t in
+    let d = taken.due-d in
+    rw c.ranged-place.ensures
     (line_after _ _ _ fuel_line d.result.values _ (λ zs. fuel t.result.fuel ≡ fuel_of (plain zs)) d.ensures.after t.ensures)
 
 pub fuel_line_spec : {M : Type 1} → statement M
-fuel_line_spec = tie.close (tie.spec (λ c. search rules) (λ c κs. search rules) (λ c κs. search rules) (λ c κs. search rules) returns)
+fuel_line_spec = tie.close (tie.spec (λ c. search rules) (λ c. search rules) (λ c. search rules) returns)

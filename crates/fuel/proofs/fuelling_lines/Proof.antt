@@ -10,8 +10,8 @@ returns : tie.Need-returns
 returns c =
     let gas = c.before.before.before in
     let fuel = gas.before.before in
-    line-then fuel_line free _ (λ seen. fuel.fuel-line.ensures)
-    (line-then gas_line gas-rule _ (λ seen. gas.gas-line.ensures) (none_read gas.gas-line.ensures.fair))
+    line-then fuel_line free _ (λ seen. fuel.fuel_line-l0.ensures)
+    (line-then gas_line gas-rule _ (λ seen. gas.gas_line-l1.ensures) (none_read gas.gas_line-l1.ensures.fair))
 
 pub fuelling_lines_spec : {M : Type 1} → statement M
 fuelling_lines_spec = tie.close (tie.spec (λ c κs. search rules) (λ c κs. search rules) returns)

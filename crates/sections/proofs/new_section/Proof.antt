@@ -23,12 +23,12 @@ returns c lines e =
     let placed = c.before.before in
     let line = placed.before.before.before in
     let a = line.before.before in
-    let k = placed.section-place in
-    let l = line.section-line in
+    let k = placed.section_place-known in
+    let l = line.section_line-l in
     let S = map section (take a.args.i lines) in
     let n = shown-length a.args.i lines (omega (arith, a.requires.0, numbers-length lines e)) in
     let stands = k.ensures ∙ place-among lines e l.result.section.number.0 a.args.i in
-    rw c.ruled.ensures
+    rw c.ruled-place.ensures
     (ruled-after a.args.s.now a.args.p l.result.place section_line (λ row. section l.result.section ≡ section_of row)
     (λ row. none) (λ row. section_fault S (section_of row)) (ltb k.result a.args.i) SectionTwice
     (λ row h. ap (λ (t : Bool). when t SectionTwice) (before-is (section_of row).number S

@@ -12,10 +12,10 @@ use Rattle.sections.proofs.section_line.Tie as tie
 returns : tie.Need-returns
 returns c =
     let taken = c.before.before.before in
-    let t = taken.section-of in
-    let d = taken.before.before.due in
-    rw c.before.ranged.ensures
+    let t = taken.section_of-t in
+    let d = taken.due-d in
+    rw c.ranged-place.ensures
     (line_after _ _ _ section_line d.result.values _ (λ zs. section t.result.section ≡ section_of (plain zs)) d.ensures.after t.ensures)
 
 pub section_line_spec : {M : Type 1} → statement M
-section_line_spec = tie.close (tie.spec (λ c. search rules) (λ c κs. search rules) (λ c κs. search rules) (λ c κs. search rules) returns)
+section_line_spec = tie.close (tie.spec (λ c. search rules) (λ c. search rules) (λ c. search rules) returns)

@@ -11,10 +11,10 @@ use Rattle.sections.proofs.Sections.{place_here, place_further}
 use Rattle.sections.proofs.section_place.Statement.{statement}
 use Rattle.sections.proofs.section_place.Tie as tie
 
-abbrev invariant-loop : tie.invariant-loop
+abbrev invariant-loop : tie.invariant-loop-i
 invariant-loop numbers count number place₀ i₀ place i = (i ≤ count) × (place ≡ i + place_of number.0 (drop i (take count numbers)))
 
-abbrev decreases-loop : tie.decreases-loop
+abbrev decreases-loop : tie.decreases-loop-i
 decreases-loop numbers count number place₀ i₀ place i = i
 
 module _ (n : ℕ) (l : List ℕ) (count : ℕ) (fits : count ≤ length l) where
@@ -32,27 +32,27 @@ module _ (n : ℕ) (l : List ℕ) (count : ℕ) (fits : count ≤ length l) wher
     not-met : (k : ℕ) → k ≡ suc i → ¬ (get_or l i 0 ≡ n) → place_of n (drop i (take count l)) ≡ suc (place_of n (drop k (take count l)))
     not-met k e other = rw e (place_further n (take count l) i (rw first-length h) (λ q. other (sym (get_or-take count l i 0 h) ∙ q)))
 
-loop-holds : tie.Need-loop-init invariant-loop decreases-loop
+loop-holds : tie.Need-loop-i-init invariant-loop decreases-loop
 loop-holds c = (omega arith, omega (arith, none-met c.args.number.0 c.args.numbers.now c.args.count c.requires.1))
 
-loop-again : tie.Need-loop-preserved invariant-loop decreases-loop
+loop-again : tie.Need-loop-i-preserved-then-numbers-i invariant-loop decreases-loop
 loop-again c =
     let turn = c.before.before.before.before in
-    let a = turn.before.args in
-    let i = turn.loop.i - 1 in
-    (omega arith, omega (arith, met a.number.0 a.numbers.now a.count (omega arith) i (omega arith) c.if1.true))
+    let a = turn.args in
+    let i = turn.loop-i.i - 1 in
+    (omega arith, omega (arith, met a.number.0 a.numbers.now a.count (omega arith) i (omega arith) c.if-numbers-i.true))
 
-loop-again-2 : tie.Need-loop-preserved-2 invariant-loop decreases-loop
+loop-again-2 : tie.Need-loop-i-preserved invariant-loop decreases-loop
 loop-again-2 c =
     let turn = c.before.before.before.before in
-    let a = turn.before.args in
-    let i = turn.loop.i - 1 in
-    let further = not-met a.number.0 a.numbers.now a.count (omega arith) i (omega arith) turn.loop.i (omega arith) c.if1.false in
-    (omega arith, omega (arith, turn.loop.invariant.1))
+    let a = turn.args in
+    let i = turn.loop-i.i - 1 in
+    let further = not-met a.number.0 a.numbers.now a.count (omega arith) i (omega arith) turn.loop-i.i (omega arith) c.if-numbers-i.false in
+    (omega arith, omega (arith, turn.loop-i.invariant.1))
 
 returns : tie.Need-returns invariant-loop decreases-loop
 returns c =
-    let at = c.before.loop in
+    let at = c.loop-i in
     let e : at.i ≡ 0 = omega arith in
     omega (arith, rw e at at.invariant.1)
 

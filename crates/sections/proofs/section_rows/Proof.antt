@@ -72,20 +72,20 @@ next s p q q' i lines x seen h e a b =
     (rule-here seen i lines rows e w) b))
     b.passes b.fair)
 
-abbrev invariant-loop : tie.invariant-loop
+abbrev invariant-loop : tie.invariant-loop-i
 invariant-loop s k ns₀ lines₀ p₀ i₀ ns lines p i =
     (i ≤ k) × (k ≤ sections_most) × (length lines ≡ sections_most) × Ready s p × (ns ≡ numbers lines)
     × ((seen : Sheet) → lacks (bytes "section") seen ≡ true → After s p₀ (read_rows i section_line section-rule seen []) p (SectionsShown i lines))
 
-abbrev decreases-loop : tie.decreases-loop
+abbrev decreases-loop : tie.decreases-loop-i
 decreases-loop s k ns₀ lines₀ p₀ i₀ ns lines p i = k - i
 
-loop-holds : tie.Need-loop-init invariant-loop decreases-loop
+loop-holds : tie.Need-loop-i-init invariant-loop decreases-loop
 loop-holds c =
     let a = c.before.before in
     let none-shown : SectionsShown 0 (replicate sections_most blank_section) [] =
     record { filled = none_filled section section_of blank_section sections_most; distinct = distinct_none } in
-    rw c.section.ensures (
+    rw c.section-none.ensures (
       omega arith,
       a.requires.0,
       omega arith,
@@ -94,18 +94,18 @@ loop-holds c =
       λ seen e. block_start a.args.s.now section_line section-rule seen a.args.start (SectionsShown 0 _) none-shown a.requires.1.fair,
     )
 
-new-section-requires : tie.Need-new-section-requires invariant-loop decreases-loop
+new-section-requires : tie.Need-new_section-l-requires invariant-loop decreases-loop
 new-section-requires c κs =
-    let at = c.before.before.loop in
+    let at = c.loop-i in
     ((omega arith, omega (arith, numbers-length at.lines at.invariant.4)), at.invariant.3)
 
-loop-again : tie.Need-loop-preserved invariant-loop decreases-loop
+loop-again : tie.Need-loop-i-preserved invariant-loop decreases-loop
 loop-again c =
     let read = c.before.before in
     let turn = read.before.before.before in
-    let a = turn.before.before.before.args in
-    let l = read.new-section in
-    let at = turn.loop in
+    let a = turn.args in
+    let l = read.new_section-l in
+    let at = turn.loop-i in
     let line = l.ensures at.lines at.invariant.4 in (
       omega arith,
       at.invariant.1,
@@ -118,8 +118,8 @@ loop-again c =
 returns : tie.Need-returns invariant-loop decreases-loop
 returns c =
     let turn = c.before in
-    let e : turn.loop.i ≡ turn.before.before.before.args.k = omega arith in
-    rw (← e) turn.loop.invariant.5
+    let e : turn.loop-i.i ≡ turn.args.k = omega arith in
+    rw (← e) turn.loop-i.invariant.5
 
 pub section_rows_spec : {M : Type 1} → statement M
 section_rows_spec =

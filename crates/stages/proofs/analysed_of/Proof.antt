@@ -16,10 +16,10 @@ returns c =
     let r2 = r3.before in
     let r1 = r2.before in
     let r0 = r1.before in
-    rw c.of-flue.ensures
+    rw c.of_flue.ensures
     (taken_as (held_by true)
-    (r0.checked.ensures & r1.checked2.ensures & r2.checked3.ensures & r3.checked4.ensures & r4.checked5.ensures & r5.checked6.ensures
-    & r6.checked7.ensures & done))
+    (r0.checked-r0.ensures & r1.checked-r1.ensures & r2.checked-r2.ensures & r3.checked-r3.ensures & r4.checked-r4.ensures & r5.checked-r5.ensures
+    & r6.checked-r6.ensures & done))
 
 pub analysed_of_spec : {M : Type 1} → statement M
 analysed_of_spec =

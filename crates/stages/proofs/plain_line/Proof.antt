@@ -12,10 +12,10 @@ use Rattle.stages.proofs.plain_line.Tie as tie
 returns : tie.Need-returns
 returns c =
     let taken = c.before.before.before in
-    let t = taken.stage-of in
-    let d = taken.before.before.due in
-    rw c.before.ranged.ensures
+    let t = taken.stage_of-t in
+    let d = taken.due-d in
+    rw c.ranged-place.ensures
     (line_after _ _ _ stage_line d.result.values _ (λ zs. t.result.stage ≡ held_by false (plain zs)) d.ensures.after t.ensures)
 
 pub plain_line_spec : {M : Type 1} → statement M
-plain_line_spec = tie.close (tie.spec (λ c. search rules) (λ c κs. search rules) (λ c κs. search rules) (λ c κs. search rules) returns)
+plain_line_spec = tie.close (tie.spec (λ c. search rules) (λ c. search rules) (λ c. search rules) returns)

@@ -9,9 +9,9 @@ use Rattle.stages.proofs.stage_count.Tie as tie
 returns : tie.Need-returns
 returns c =
     let checked = c.before.before.before in
-    let t = checked.checked in
-    let d = checked.before.before.before.due in
-    counted (bytes "stages") stages_least stages_most d.result.values t.result.value.0 d.ensures.after t.ensures tt c.before.ranged.ensures
+    let t = checked.checked-t in
+    let d = checked.due-d in
+    counted (bytes "stages") stages_least stages_most d.result.values t.result.value.0 d.ensures.after t.ensures tt c.ranged-place.ensures
 
 pub stage_count_spec : {M : Type 1} → statement M
-stage_count_spec = tie.close (tie.spec (λ c. search rules) (λ c κs. search rules) (λ c. search rules) (λ c κs. search rules) (λ c κs. search rules) returns)
+stage_count_spec = tie.close (tie.spec (λ c. search rules) (λ c. search rules) (λ c. search rules) (λ c. search rules) returns)

@@ -15,7 +15,7 @@ returns c =
     let r1 = r2.before in
     let r0 = r1.before in
     rw c.analysis.ensures
-    (taken_as (held_by false) (r0.checked.ensures & r1.checked2.ensures & r2.checked3.ensures & r3.checked4.ensures & r4.checked5.ensures & done))
+    (taken_as (held_by false) (r0.checked-r0.ensures & r1.checked-r1.ensures & r2.checked-r2.ensures & r3.checked-r3.ensures & r4.checked-r4.ensures & done))
 
 pub stage_of_spec : {M : Type 1} → statement M
 stage_of_spec =

@@ -20,19 +20,19 @@ either : (flue : Bool) → paragraphs_of (staging_by flue) ≡ paragraph flue �
 either true = refl
 either false = refl
 
-stage-rows-requires : tie.Need-stage-rows-requires
+stage-rows-requires : tie.Need-stage_rows-l-requires
 stage-rows-requires c κs =
     let counted = c.before.before in
-    let n = counted.stage-count.ensures in
-    (n.within, record { short = counted.before.before.requires.short; fair = n.after.fair })
+    let n = counted.stage_count-n.ensures in
+    (n.within, record { short = counted.requires.short; fair = n.after.fair })
 
 returns : tie.Need-returns
 returns c =
     let rows = c.before.before in
     let counted = rows.before.before.before in
-    let l = rows.stage-rows.ensures in
-    let n = counted.stage-count.ensures in
-    let flue = counted.before.before.args.analysed in
+    let l = rows.stage_rows-l.ensures in
+    let n = counted.stage_count-n.ensures in
+    let flue = counted.args.analysed in
     record {
       after = rw (either flue)
           (block_read (paragraph flue) (stage_line_by flue) _ (λ seen.

@@ -21,15 +21,15 @@ abbrev known : tie.Start → List Known
 known c = whole (co c) ∷ whole (pair c) ∷ whole (oxygen c) ∷ []
 
 -- the start, from where each of the three is widened
-abbrev first : tie.After-struct-told → tie.Start
+abbrev first : tie.After-struct_told-1 → tie.Start
 first c =
     let oxygen = c.before.before in
     oxygen.before.before.before.before
 
-abbrev second : tie.After-struct-told2 → tie.Start
+abbrev second : tie.After-struct_told-2-1 → tie.Start
 second c = first c.before.before
 
-abbrev third : tie.After-struct-told3 → tie.Start
+abbrev third : tie.After-struct_told-3-1 → tie.Start
 third c = second c.before.before
 
 pub together_spec : {M : Type 1} → statement M

@@ -9,9 +9,9 @@ use Rattle.blocks.proofs.parts.part_count.Tie as tie
 returns : tie.Need-returns
 returns c =
     let checked = c.before.before.before in
-    let t = checked.checked in
-    let d = checked.before.before.before.due in
-    counted (bytes "parts") 0 parts_most d.result.values t.result.value.0 d.ensures.after t.ensures tt c.before.ranged.ensures
+    let t = checked.checked-t in
+    let d = checked.due-d in
+    counted (bytes "parts") 0 parts_most d.result.values t.result.value.0 d.ensures.after t.ensures tt c.ranged-place.ensures
 
 pub part_count_spec : {M : Type 1} → statement M
-part_count_spec = tie.close (tie.spec (λ c. search rules) (λ c κs. search rules) (λ c. search rules) (λ c κs. search rules) (λ c κs. search rules) returns)
+part_count_spec = tie.close (tie.spec (λ c. search rules) (λ c. search rules) (λ c. search rules) (λ c. search rules) returns)

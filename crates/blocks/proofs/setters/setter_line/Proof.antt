@@ -17,17 +17,16 @@ use Rattle.blocks.proofs.setters.setter_line.Tie as tie
 
 returns : tie.Need-returns
 returns c =
-    let u = c.before.unsuited in
+    let u = c.unsuited in
     let ranged = c.before.before.before.before in
     let taken = ranged.before.before in
-    let t = taken.setter-of in
-    let d = taken.before.before.due in
+    let t = taken.setter_of-t in
+    let d = taken.due-d in
     ruled-line setter_line d.result.values (λ zs. setter t.result.setter ≡ setter_of (plain zs)) (material-rule 2 []) u.result (Material 3)
-    d.ensures.after t.ensures ranged.ranged.ensures
-    (λ row h. sym (ap (λ (t : Bool). when t (Material 3)) (u.ensures ∙ ap (λ (x : Setter). unsuited x.stuff) h))) c.ruled.ensures
+    d.ensures.after t.ensures ranged.ranged-inside.ensures
+    (λ row h. sym (ap (λ (t : Bool). when t (Material 3)) (u.ensures ∙ ap (λ (x : Setter). unsuited x.stuff) h))) c.ruled-place.ensures
 
 pub setter_line_spec : {M : Type 1} → statement M
 setter_line_spec =
     tie.close
-    (tie.spec (λ c. search rules) (λ c κs. search rules) (λ c κs. search rules) (λ c κs. search rules) (λ c κs. search rules)
-    (λ c κs. search rules) returns)
+    (tie.spec (λ c. search rules) (λ c. search rules) (λ c. search rules) (λ c. search rules) (λ c. search rules) returns)

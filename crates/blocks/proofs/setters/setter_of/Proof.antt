@@ -11,7 +11,7 @@ returns c =
     let r2 = r3.before in
     let r1 = r2.before in
     let r0 = r1.before in
-    taken_as setter_of (r0.checked.ensures & r1.checked2.ensures & r2.checked3.ensures & r3.checked4.ensures & done)
+    taken_as setter_of (r0.checked-r0.ensures & r1.checked-r1.ensures & r2.checked-r2.ensures & r3.checked-r3.ensures & done)
 
 pub setter_of_spec : {M : Type 1} → statement M
 setter_of_spec =

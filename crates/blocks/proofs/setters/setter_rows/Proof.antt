@@ -13,32 +13,32 @@ use Rattle.due.proofs.Fills.{Filling, filling_none, filling_next}
 use Rattle.blocks.proofs.setters.setter_rows.Statement.{statement}
 use Rattle.blocks.proofs.setters.setter_rows.Tie as tie
 
-abbrev invariant-loop : tie.invariant-loop
+abbrev invariant-loop : tie.invariant-loop-i
 invariant-loop s k lines₀ p₀ i₀ lines p i = Filling setter setter_of blank_setter setters_most s setter_line (material-rule 2) k p₀ p i lines
 
-abbrev decreases-loop : tie.decreases-loop
+abbrev decreases-loop : tie.decreases-loop-i
 decreases-loop s k lines₀ p₀ i₀ lines p i = k - i
 
-loop-holds : tie.Need-loop-init invariant-loop decreases-loop
+loop-holds : tie.Need-loop-i-init invariant-loop decreases-loop
 loop-holds c =
     let start = c.before.before in
-    rw c.setter.ensures (filling_none setter setter_of blank_setter setters_most _ setter_line (material-rule 2) _ _ start.requires.0 start.requires.1)
+    rw c.setter-none.ensures (filling_none setter setter_of blank_setter setters_most _ setter_line (material-rule 2) _ _ start.requires.0 start.requires.1)
 
-setter-line-requires : tie.Need-setter-line-requires invariant-loop decreases-loop
-setter-line-requires c κs = c.before.loop.invariant.3
+setter-line-requires : tie.Need-setter_line-l-requires invariant-loop decreases-loop
+setter-line-requires c κs = c.loop-i.invariant.3
 
-loop-again : tie.Need-loop-preserved invariant-loop decreases-loop
+loop-again : tie.Need-loop-i-preserved invariant-loop decreases-loop
 loop-again c =
     let line = c.before.before in
     let turn = line.before.before in
-    filling_next setter setter_of blank_setter setters_most _ setter_line (material-rule 2) _ _ _ _ _ turn.loop.lines _ turn.loop.invariant (omega arith)
-    (λ above. line.setter-line.ensures)
+    filling_next setter setter_of blank_setter setters_most _ setter_line (material-rule 2) _ _ _ _ _ turn.loop-i.lines _ turn.loop-i.invariant (omega arith)
+    (λ above. line.setter_line-l.ensures)
 
 returns : tie.Need-returns invariant-loop decreases-loop
 returns c =
     let turn = c.before in
-    let e : turn.loop.i ≡ turn.before.before.before.args.k = omega arith in
-    rw (← e) turn.loop.invariant.4
+    let e : turn.loop-i.i ≡ turn.args.k = omega arith in
+    rw (← e) turn.loop-i.invariant.4
 
 pub setter_rows_spec : {M : Type 1} → statement M
 setter_rows_spec =

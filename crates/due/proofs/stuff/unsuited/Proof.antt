@@ -14,17 +14,17 @@ use Rattle.due.proofs.stuff.unsuited.Tie as tie
 listed : (m : ℕ) (b : Bool) → (m ≡ 0 → ⊥) → alike (same (pos 0) (pos m)) b ≡ not b
 listed m b h = rw (le-leb 0 m (omega arith), lt-leb m 0 (omega arith))
 
-returns : tie.Need-returns
+returns : tie.Need-returns-then-material-eq0
 returns c =
     let tested = c.before.before in
-    let x = tested.before.before.before.args.x in
-    tested.without.ensures ∙ sym (ap (λ (m : ℕ). alike (same (pos 0) (pos m)) (same (pos 0) x.c.0)) c.if1.true)
+    let x = tested.args.x in
+    tested.without-none.ensures ∙ sym (ap (λ (m : ℕ). alike (same (pos 0) (pos m)) (same (pos 0) x.c.0)) c.if-material-eq0.true)
 
-returns-2 : tie.Need-returns-2
+returns-2 : tie.Need-returns-else-material-eq0
 returns-2 c =
     let tested = c.before.before in
-    let x = tested.before.before.before.args.x in
-    ap not tested.without.ensures ∙ sym (listed x.material.0 (same (pos 0) x.c.0) c.if1.false)
+    let x = tested.args.x in
+    ap not tested.without-none.ensures ∙ sym (listed x.material.0 (same (pos 0) x.c.0) c.if-material-eq0.false)
 
 pub unsuited_spec : {M : Type 1} → statement M
 unsuited_spec = tie.close (tie.spec (λ c κs. search rules) returns returns-2)

@@ -10,18 +10,18 @@ use borrow.Author.Rules.{rules}
 use Rattle.due.proofs.stuff.without.Statement.{statement}
 use Rattle.due.proofs.stuff.without.Tie as tie
 
-returns : tie.Need-returns
+returns : tie.Need-returns-then-c-ge0
 returns c =
     let above = c.before.before in
-    let x = above.before.before.before.args.c in
+    let x = above.args.c in
     let fits : SFits w32 x.0 = search rules in
     let v = to_z-of_z fits in
     let low : le_z (pos 0) x.0 ≡ true = cc in
     rw (low, v)
 
-returns-2 : tie.Need-returns-2
+returns-2 : tie.Need-returns-else-c-ge0
 returns-2 c =
-    let x = c.before.before.before.args.c in
+    let x = c.args.c in
     let fits : SFits w32 x.0 = search rules in
     let v = to_z-of_z fits in
     let low : le_z (pos 0) x.0 ≡ false = cc in

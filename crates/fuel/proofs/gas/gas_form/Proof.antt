@@ -15,59 +15,59 @@ use Rattle.fuel.proofs.gas.gas_form.Statement.{statement}
 use Rattle.fuel.proofs.gas.gas_form.Tie as tie
 
 -- the start, from where the place is good, and where the key stands, from where the row is read
-abbrev start : tie.Then1 → tie.Start
+abbrev start : tie.Then-p-eq0 → tie.Start
 start c = c.before.before.before
 
-abbrev stood : tie.After-row → tie.Then2
+abbrev stood : tie.After-row-next → tie.Then-keyed
 stood c = c.before.before.before
 
-abbrev sound : tie.Then2 → tie.Then1
-sound c = c.before.before.before
+abbrev sound : tie.Then-keyed → tie.Then-p-eq0
+sound c = c.before.before.before.before
 
 -- the place is good where the careful reader is asked
-abbrev asked : tie.Joined2 → tie.Then1
-asked c = c.before.before.before
+abbrev asked : tie.Joined-keyed → tie.Then-p-eq0
+asked c = c.before.before.before.before
 
-is-sound : (c : tie.Then1) → good (start c).args.p ≡ true
-is-sound c = is-good (start c).args.p c.if1.true
+is-sound : (c : tie.Then-p-eq0) → good (start c).args.p ≡ true
+is-sound c = is-good (start c).args.p c.if-p-eq0.true
 
-fair : (c : tie.Then1) → Fair (start c).args.s.now (start c).args.p
+fair : (c : tie.Then-p-eq0) → Fair (start c).args.s.now (start c).args.p
 fair c = (start c).requires.0.fair (is-sound c)
 
-add_row : tie.Need-overflow-add-row
+add_row : tie.Need-overflow_add-p
 add_row c =
     let g = sound c.before in
-    omega (arith, (fair g).within, (start g).pre.0.short)
+    omega (arith, (fair g).within, (start g).requires.0.short)
 
 onward-requires : tie.Need-onward-requires
 onward-requires c κs =
     let g = sound (stood c.before) in
-    omega (arith, (fair g).line, (fair g).within, (start g).pre.0.short)
+    omega (arith, (fair g).line, (fair g).within, (start g).requires.0.short)
 
-returns : tie.Need-returns
+returns : tie.Need-returns-then-next-ne0
 returns c =
     let read = c.before.before in
     let g = sound (stood read) in
     let a = start g in
     rw c.onward.ensures
-    (row_read a.args.s.now a.args.p (bytes "gas=") gases a.pre.0 (is-sound g) a.args.v.now _ read.row.result
-    (sym (stood read).before.keyed.ensures ∙ (stood read).if2.true) a.pre.1 read.row.ensures c.before.if3.true)
+    (row_read a.args.s.now a.args.p (bytes "gas=") gases a.requires.0 (is-sound g) a.args.v.now _ read.row-next.result
+    (sym (stood read).keyed.ensures ∙ (stood read).if-keyed.true) a.requires.1 read.row-next.ensures c.if-next-ne0.true)
 
 careful-requires : tie.Need-careful-requires
 careful-requires c κs =
-    let g = asked c.before.before in
+    let g = asked c.before.before.before in
     let a = start g in
-    let size : length a.args.v.now ≡ fields_most = ap length a.pre.1 in
-    let kept = ⊎_elim (λ w. ap length w.5 ∙ w.3.ensures.long ∙ size) (λ w. ap length w.1 ∙ size) c.before.before.if2.branch in
-    (lit≤ tt, (a.pre.0, (is-sound g, kept)))
+    let size : length a.args.v.now ≡ fields_most = ap length a.requires.1 in
+    let kept = ⊎_elim (λ w. ap length w.5 ∙ w.3.ensures.long ∙ size) (λ w. ap length w.1 ∙ size) c.if-keyed.branch in
+    (lit≤ tt, (a.requires.0, (is-sound g, kept)))
 
-returns-3 : tie.Need-returns-3
+returns-3 : tie.Need-returns
 returns-3 c =
     let a = c.before.before.before in
-    form_passed a.args.s.now a.args.p (bytes "gas=") gases a.args.v.now (is-bad a.args.p c.if1.false) a.requires.1
+    form_passed a.args.s.now a.args.p (bytes "gas=") gases a.args.v.now (is-bad a.args.p c.if-p-eq0.false) a.requires.1
 
 pub gas_form_spec : {M : Type 1} → statement M
 gas_form_spec =
     tie.close
-    (tie.spec (λ c. search rules) (λ c κs. (fair c.before).within) add_row (λ c κs. search rules) onward-requires returns (λ c. search rules)
+    (tie.spec (λ c. search rules) (λ c κs. (fair c.before).within) add_row (λ c. search rules) onward-requires returns (λ c. search rules)
     careful-requires (λ c. search rules) returns-3)

@@ -43,20 +43,20 @@ all_small v i (suc n) = (share-small (get_or v i (record { 0 = pos 0 })).0, all_
 
 unburnable-requires : tie.Need-unburnable-requires
 unburnable-requires c κs =
-    let t = c.before.before.gas-of in
-    every_made (λ (x : Share). x.0) Small t.result.gas (rw t.ensures.shown (all_small c.before.before.before.numbers2.result 0 gases))
+    let t = c.gas_of-t in
+    every_made (λ (x : Share). x.0) Small t.result.gas (rw t.ensures.shown (all_small c.numbers-v.result 0 gases))
 
 returns : tie.Need-returns
 returns c =
-    let u = c.before.unburnable in
+    let u = c.unburnable in
     let ranged = c.before.before.before in
-    let t = ranged.before.gas-of in
-    let n = ranged.before.before.numbers2 in
-    let f = ranged.before.before.before.gas-form in
+    let t = ranged.gas_of-t in
+    let n = ranged.numbers-v in
+    let f = ranged.gas_form-q in
     let whole : List ℤ → Bool = λ zs. not (same (sum (λ z. z) zs) (pos 10000) && lt_z (pos 0) (weigh air_weights zs)) in
     ruled-line gas_line n.result (λ zs. shares t.result.gas ≡ zs) (gas-rule []) u.result Shares
-    (due_form _ _ _ gases f.result _ n.result (lit≤ tt) n.ensures f.ensures) t.ensures ranged.ranged.ensures
-    (λ row h. sym (ap (λ (t : Bool). when t Shares) (u.ensures ∙ ap whole h))) c.ruled.ensures
+    (due_form _ _ _ gases f.result _ n.result (lit≤ tt) n.ensures f.ensures) t.ensures ranged.ranged-inside.ensures
+    (λ row h. sym (ap (λ (t : Bool). when t Shares) (u.ensures ∙ ap whole h))) c.ruled-place.ensures
 
 pub gas_line_spec : {M : Type 1} → statement M
 gas_line_spec =

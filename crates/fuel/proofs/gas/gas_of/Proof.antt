@@ -27,29 +27,29 @@ one_more v gas x i fault after h c m =
     let e : 0 + i ≡ i = omega arith in
     rw (add-one i, replicate_end i share, from_end v 0 i, e, take-suc-set gas i x h, map-append (λ (y : Share). y.0) (take i gas) (x ∷ [])) (chain_snoc c k m)
 
-abbrev invariant-loop : tie.invariant-loop
+abbrev invariant-loop : tie.invariant-loop-i
 invariant-loop v gas₀ fault₀ i₀ gas fault i = (i ≤ gases) × (length gas ≡ gases) × Chain 0 1 (replicate i share) (from 0 i v) (shares (take i gas)) fault
 
-abbrev decreases-loop : tie.decreases-loop
+abbrev decreases-loop : tie.decreases-loop-i
 decreases-loop v gas₀ fault₀ i₀ gas fault i = gases - i
 
-loop-holds : tie.Need-loop-init invariant-loop decreases-loop
+loop-holds : tie.Need-loop-i-init invariant-loop decreases-loop
 loop-holds c = (omega arith, refl, done)
 
-loop-again : tie.Need-loop-preserved invariant-loop decreases-loop
+loop-again : tie.Need-loop-i-preserved invariant-loop decreases-loop
 loop-again c =
     let turn = c.before.before.before.before in
-    let at = turn.loop in
-    let r = c.before.checked in
+    let at = turn.loop-i in
+    let r = c.checked-r in
     let x = r.result.value in (
       omega arith,
       simp length-set at.invariant.1,
-      one_more turn.before.args.t1 at.gas x at.i at.fault r.result.fault (omega arith) at.invariant.2 r.ensures,
+      one_more turn.args.v at.gas x at.i at.fault r.result.fault (omega arith) at.invariant.2 r.ensures,
     )
 
 returns : tie.Need-returns invariant-loop decreases-loop
 returns c =
-    let at = c.before.loop in
+    let at = c.loop-i in
     let e : at.i ≡ gases = omega arith in
     let t = rw (e, take_all gases at.gas (omega arith)) at at.invariant.2 in
     taken (λ (l : List ℤ). l) t

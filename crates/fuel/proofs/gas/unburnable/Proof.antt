@@ -38,19 +38,19 @@ module _ (gas : List Share) (few : length gas ≡ gases) {total air : ℤ} {full
       joined full burns _ _ (f ∙ ap (λ (z : ℤ). same z (pos 10000)) (s ∙ one)) (b ∙ ap (λ (z : ℤ). lt_z (pos 0) z) a)
 
 -- the definition's test by the code's two
-by_tests : (c : tie.After-any) → let g = c.before.before.before.before.args.gas in
-    not (c.before.before.whole.result && c.any.result) ≡ not (same (sum (λ z. z) (shares g)) (pos 10000) && lt_z (pos 0) (weigh air_weights (shares g)))
+by_tests : (c : tie.After-any-burns) → let g = c.args.gas in
+    not (c.whole-full.result && c.any-burns.result) ≡ not (same (sum (λ z. z) (shares g)) (pos 10000) && lt_z (pos 0) (weigh air_weights (shares g)))
 by_tests c =
     let w = c.before in
     let f = w.before in
     let o = f.before in
-    tests o.before.args.gas (omega arith) o.weighed.ensures w.weighed2.ensures f.whole.ensures c.any.ensures
+    tests o.args.gas (omega arith) o.weighed.ensures w.weighed-2.ensures f.whole-full.ensures c.any-burns.ensures
 
-returns : tie.Need-returns
-returns c = ap (λ (t : Bool). not (t && c.before.any.result)) (sym c.if1.true) ∙ by_tests c.before
+returns : tie.Need-returns-then-full
+returns c = ap (λ (t : Bool). not (t && c.any-burns.result)) (sym c.if-full.true) ∙ by_tests c.before
 
-returns-2 : tie.Need-returns-2
-returns-2 c = ap (λ (t : Bool). not (t && c.before.any.result)) (sym c.if1.false) ∙ by_tests c.before
+returns-2 : tie.Need-returns-else-full
+returns-2 c = ap (λ (t : Bool). not (t && c.any-burns.result)) (sym c.if-full.false) ∙ by_tests c.before
 
 pub unburnable_spec : {M : Type 1} → statement M
 unburnable_spec = tie.close (tie.spec (λ c κs. search rules) (λ c κs. search rules) (λ c κs. search rules) (λ c κs. search rules) returns returns-2)

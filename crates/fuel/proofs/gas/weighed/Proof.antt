@@ -21,11 +21,11 @@ use Rattle.document.proofs.Lists.{every-at}
 use Rattle.fuel.proofs.gas.weighed.Statement.{statement}
 use Rattle.fuel.proofs.gas.weighed.Tie as tie
 
-abbrev invariant-loop : tie.invariant-loop
+abbrev invariant-loop : tie.invariant-loop-i
 invariant-loop gas weights sum₀ i₀ sum i =
     (i ≤ gases) × (nat_abs sum.0 ≤ i * 130000) × (sum.0 +ℤ weigh (drop i weights) (drop i (shares gas)) ≡ weigh weights (shares gas))
 
-abbrev decreases-loop : tie.decreases-loop
+abbrev decreases-loop : tie.decreases-loop-i
 decreases-loop gas weights sum₀ i₀ sum i = gases - i
 
 weigh-step : (ws : List ℤ) (gas : List Share) (i : ℕ) → i < length ws → i < length gas
@@ -44,34 +44,34 @@ module _ (gas : List Share) (weights : List ℤ) (sum : ℤ) (i : ℕ) (h : i < 
       ∷ small sum {B = 1690000} (omega arith)
       ∷ []
 
-loop-holds : tie.Need-loop-init invariant-loop decreases-loop
+loop-holds : tie.Need-loop-i-init invariant-loop decreases-loop
 loop-holds c = (omega arith, omega arith, +ℤ_idl _)
 
 -- the turn in which a share is looked at, and what is known of it, of its weight and of the sum
-abbrev turn : tie.After-struct-told invariant-loop decreases-loop → tie.At-loop invariant-loop decreases-loop
+abbrev turn : tie.After-struct_told-1 invariant-loop decreases-loop → tie.At-loop-i invariant-loop decreases-loop
 turn c = let weight = c.before.before in weight.before.before.before
 
-abbrev known : tie.After-struct-told invariant-loop decreases-loop → List Known
+abbrev known : tie.After-struct_told-1 invariant-loop decreases-loop → List Known
 known c =
-    let at = (turn c).loop in
+    let at = (turn c).loop-i in
     let a = (turn c).before in
-    ks a.args.t1 a.args.t2 at.sum.0 at.i (omega arith) (omega arith) (omega arith) a.pre.0 a.pre.1 at.inv.1
+    ks a.args.gas a.args.weights at.sum.0 at.i (omega arith) (omega arith) (omega arith) a.requires.0 a.requires.1 at.invariant.1
 
-cast-t16 : tie.Need-overflow-cast-t16 invariant-loop decreases-loop
+cast-t16 : tie.Need-overflow_cast-sum invariant-loop decreases-loop
 cast-t16 c = fits (known c) w64 (from w32 (arg 1)) tt
 
-mul-t17 : tie.Need-overflow-mul-t17 invariant-loop decreases-loop
+mul-t17 : tie.Need-overflow_mul-sum invariant-loop decreases-loop
 mul-t17 c = fits (known c) w64 (arg 0 ⟨*⟩ from w32 (arg 1)) tt
 
-add-t18 : tie.Need-overflow-add-t18 invariant-loop decreases-loop
+add-t18 : tie.Need-overflow_add-sum invariant-loop decreases-loop
 add-t18 c = fits (known c.before.before) w64 (arg 2 ⟨+⟩ arg 0 ⟨*⟩ from w32 (arg 1)) tt
 
-loop-again : tie.Need-loop-preserved invariant-loop decreases-loop
+loop-again : tie.Need-loop-i-preserved invariant-loop decreases-loop
 loop-again c =
     let told = c.before.before in
-    let at = (turn told).loop in
-    let gas = (turn told).before.args.t1 in
-    let weights = (turn told).before.args.t2 in
+    let at = (turn told).loop-i in
+    let gas = (turn told).args.gas in
+    let weights = (turn told).args.weights in
     let w = get_or weights at.i (pos 0) in
     let x = (get_or gas at.i (record { 0 = pos 0 })).0 in
     let r = result (known told) w64 (arg 2 ⟨+⟩ arg 0 ⟨*⟩ from w32 (arg 1)) tt in
@@ -79,16 +79,16 @@ loop-again c =
     let step = weigh-step weights gas at.i (omega arith) (omega arith) in
     let rest = weigh (drop (at.i + 1) weights) (drop (at.i + 1) (shares gas)) in (
       omega arith,
-      rw r (omega (arith, at.inv.1, more, abs-add at.sum.0 (w *ℤ x))),
-      rw r (+ℤ_assoc at.sum.0 (w *ℤ x) rest ∙ ap (λ (z : ℤ). at.sum.0 +ℤ z) (sym step) ∙ at.inv.2),
+      rw r (omega (arith, at.invariant.1, more, abs-add at.sum.0 (w *ℤ x))),
+      rw r (+ℤ_assoc at.sum.0 (w *ℤ x) rest ∙ ap (λ (z : ℤ). at.sum.0 +ℤ z) (sym step) ∙ at.invariant.2),
     )
 
 returns : tie.Need-returns invariant-loop decreases-loop
 returns c =
-    let at = c.before.loop in
-    let a = c.before.before.args in
+    let at = c.loop-i in
+    let a = c.args in
     let e : at.i ≡ gases = omega arith in
-    let none : drop at.i a.t2 ≡ [] = drop_of_length-le a.t2 {i = at.i} (omega arith) in
+    let none : drop at.i a.weights ≡ [] = drop_of_length-le a.weights {i = at.i} (omega arith) in
     ring (at.sum.0 ∷ []) (v 0) (v 0 ⊕ # 0) tt ∙ rw none at at.invariant.2
 
 pub weighed_spec : {M : Type 1} → statement M

@@ -10,18 +10,18 @@ use borrow.Author.Rules.{rules}
 use Rattle.fuel.proofs.gas.whole.Statement.{statement}
 use Rattle.fuel.proofs.gas.whole.Tie as tie
 
-returns : tie.Need-returns
+returns : tie.Need-returns-then-sum-le10000
 returns c =
     let low = c.before.before in
-    let x = low.before.before.before.args.sum in
+    let x = low.args.sum in
     let fits : SFits w64 x.0 = search rules in
     let v = to_z-of_z fits in
     let low : le_z x.0 (pos 10000) ≡ true = cc in
     rw (v, low)
 
-returns-2 : tie.Need-returns-2
+returns-2 : tie.Need-returns-else-sum-le10000
 returns-2 c =
-    let x = c.before.before.before.args.sum in
+    let x = c.args.sum in
     let fits : SFits w64 x.0 = search rules in
     let v = to_z-of_z fits in
     let low : le_z x.0 (pos 10000) ≡ false = cc in

@@ -13,10 +13,10 @@ returns c =
     let water = clay.before.before in
     let ware = water.before.before in
     let air = ware.before.before in
-    line-then air_line free _ (λ seen. air.moisture-line.ensures)
-    (line-then ware_line (material-rule 3) _ (λ seen. ware.ware-line.ensures)
-    (line-then water_line free _ (λ seen. water.water-line.ensures)
-    (line-then clay_line free _ (λ seen. clay.clay-line.ensures) (none_read clay.clay-line.ensures.fair))))
+    line-then air_line free _ (λ seen. air.moisture_line-l0.ensures)
+    (line-then ware_line (material-rule 3) _ (λ seen. ware.ware_line-l1.ensures)
+    (line-then water_line free _ (λ seen. water.water_line-l2.ensures)
+    (line-then clay_line free _ (λ seen. clay.clay_line-l3.ensures) (none_read clay.clay_line-l3.ensures.fair))))
 
 pub drying_lines_spec : {M : Type 1} → statement M
 drying_lines_spec = tie.close (tie.spec (λ c κs. search rules) (λ c κs. search rules) (λ c κs. search rules) (λ c κs. search rules) returns)

@@ -17,17 +17,16 @@ use Rattle.head.proofs.drying.ware_line.Tie as tie
 
 returns : tie.Need-returns
 returns c =
-    let u = c.before.unsuited in
+    let u = c.unsuited in
     let ranged = c.before.before.before.before in
     let taken = ranged.before.before in
-    let t = taken.ware-of in
-    let d = taken.before.before.due in
+    let t = taken.ware_of-t in
+    let d = taken.due-d in
     ruled-line ware_line d.result.values (λ zs. ware t.result.ware ≡ ware_of (plain zs)) (material-rule 3 []) u.result (Material 4)
-    d.ensures.after t.ensures ranged.ranged.ensures
-    (λ row h. sym (ap (λ (t : Bool). when t (Material 4)) (u.ensures ∙ ap (λ (x : Ware). unsuited x.stuff) h))) c.ruled.ensures
+    d.ensures.after t.ensures ranged.ranged-inside.ensures
+    (λ row h. sym (ap (λ (t : Bool). when t (Material 4)) (u.ensures ∙ ap (λ (x : Ware). unsuited x.stuff) h))) c.ruled-place.ensures
 
 pub ware_line_spec : {M : Type 1} → statement M
 ware_line_spec =
     tie.close
-    (tie.spec (λ c. search rules) (λ c κs. search rules) (λ c κs. search rules) (λ c κs. search rules) (λ c κs. search rules)
-    (λ c κs. search rules) returns)
+    (tie.spec (λ c. search rules) (λ c. search rules) (λ c. search rules) (λ c. search rules) (λ c. search rules) returns)

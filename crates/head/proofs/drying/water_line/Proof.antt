@@ -12,10 +12,10 @@ use Rattle.head.proofs.drying.water_line.Tie as tie
 returns : tie.Need-returns
 returns c =
     let taken = c.before.before.before in
-    let t = taken.water-of in
-    let d = taken.before.before.due in
-    rw c.before.ranged.ensures
+    let t = taken.water_of-t in
+    let d = taken.due-d in
+    rw c.ranged-place.ensures
     (line_after _ _ _ water_line d.result.values _ (λ zs. water t.result.water ≡ water_of (plain zs)) d.ensures.after t.ensures)
 
 pub water_line_spec : {M : Type 1} → statement M
-water_line_spec = tie.close (tie.spec (λ c. search rules) (λ c κs. search rules) (λ c κs. search rules) (λ c κs. search rules) returns)
+water_line_spec = tie.close (tie.spec (λ c. search rules) (λ c. search rules) (λ c. search rules) returns)

@@ -10,7 +10,7 @@ returns c =
     let r2 = c.before.before.before in
     let r1 = r2.before in
     let r0 = r1.before in
-    taken_as water_of (r0.checked.ensures & r1.checked2.ensures & r2.checked3.ensures & done)
+    taken_as water_of (r0.checked-r0.ensures & r1.checked-r1.ensures & r2.checked-r2.ensures & done)
 
 pub water_of_spec : {M : Type 1} → statement M
 water_of_spec =

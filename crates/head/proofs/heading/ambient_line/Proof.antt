@@ -9,9 +9,9 @@ use Rattle.head.proofs.heading.ambient_line.Tie as tie
 returns : tie.Need-returns
 returns c =
     let checked = c.before.before.before in
-    let t = checked.checked in
-    let d = checked.before.before.before.due in
-    alone ambient_line d.result.values t.result.value.0 d.ensures.after (t.ensures & done) c.before.ranged.ensures
+    let t = checked.checked-t in
+    let d = checked.due-d in
+    alone ambient_line d.result.values t.result.value.0 d.ensures.after (t.ensures & done) c.ranged-place.ensures
 
 pub ambient_line_spec : {M : Type 1} → statement M
-ambient_line_spec = tie.close (tie.spec (λ c. search rules) (λ c κs. search rules) (λ c. search rules) (λ c κs. search rules) (λ c κs. search rules) returns)
+ambient_line_spec = tie.close (tie.spec (λ c. search rules) (λ c. search rules) (λ c. search rules) (λ c. search rules) returns)

@@ -9,9 +9,9 @@ use Rattle.head.proofs.heading.firing_line.Tie as tie
 returns : tie.Need-returns
 returns c =
     let checked = c.before.before.before in
-    let t = checked.checked in
-    let d = checked.before.before.before.due in
-    alone firing_line d.result.values t.result.value.0 d.ensures.after (t.ensures & done) c.before.ranged.ensures
+    let t = checked.checked-t in
+    let d = checked.due-d in
+    alone firing_line d.result.values t.result.value.0 d.ensures.after (t.ensures & done) c.ranged-place.ensures
 
 pub firing_line_spec : {M : Type 1} → statement M
-firing_line_spec = tie.close (tie.spec (λ c. search rules) (λ c κs. search rules) (λ c. search rules) (λ c κs. search rules) (λ c κs. search rules) returns)
+firing_line_spec = tie.close (tie.spec (λ c. search rules) (λ c. search rules) (λ c. search rules) (λ c. search rules) returns)
