@@ -1,10 +1,7 @@
 -- A column of table A.1 as the code has it, with a row of 0 at its end: c between its rows is the definition's, and small. Assumes nothing.
-use Prim.Native.Nat.{ℕ, zero, suc, ◌+◌, ◌*◌, ◌/◌, ◌%◌, ◌-◌, ◌≤◌, ◌<◌, zero-le}
+use Prim.Native.Nat.{ℕ, zero, suc, ◌+◌, ◌/◌, ◌≤◌, zero-le}
 use mathlib.Core.Path.{◌≡◌, refl, subst, ◌∙◌}
 use mathlib.Core.List.{List, [], ◌∷◌, ◌++◌, map}
-use native.Mathlib.Nat.{mul-le-mul, mod-lt}
-use native.Mathlib.Omega.{arith}
-use lib.Dec.{lit<}
 use lib.ListN.{get_or, get_or-map}
 use Rattle.document.specs.Rules.{Every}
 use Rattle.formulas.specs.Tables.{FlueGases, flue_table, no_row}

@@ -5,7 +5,7 @@ use mathlib.Core.Path.{◌≡◌, ap}
 use mathlib.Core.Bool.{Bool}
 use mathlib.Core.List.{[], ◌∷◌}
 use mathlib.Core.Option.{Option, none, some}
-use native.Mathlib.Nat.{mod-lt, mul-le-mul_left, mul-le-mul_right, le_refl}
+use native.Mathlib.Nat.{mod-lt, mul-le-mul_left, mul-le-mul_right}
 use native.Mathlib.Omega.{arith}
 use lib.Dec.{T, leb, leb→le, lit<, lit≤}
 use lib.IntN.{ℤ, pos, nat_abs, ◌-ℤ◌, ◌*ℤ◌}
@@ -17,13 +17,13 @@ use Rattle.arith.proofs.Order.{arithℤ, parts, abs-pos, ≤ℤ-trans}
 use Rattle.arith.proofs.Machine.{raw, num, upto, bound, ◌⟨-⟩◌, ◌⟨*⟩◌}
 use Rattle.sheet.specs.Firing.{Analysis, Stage}
 use Rattle.sheet.specs.Quantities.{ambient, flue, monoxide, pair, analysis_most}
-use Rattle.document.specs.Lawful.{In, AnalysisIn, FlueIn, StageIn}
+use Rattle.document.specs.Lawful.{In, FlueIn, StageIn}
 use Rattle.document.specs.Tests.{all}
 use Rattle.formulas.specs.Tables.{FlueGases, flue_table, flue_row, no_row}
 use Rattle.formulas.specs.Formulas.{column_at, analysed_heat, capacity_by, flue_capacity}
 use Rattle.formulas.specs.Figures.{Within}
 use Rattle.formulas.specs.Sizes.{carried_most, analysed_heat_most, analysed_most}
-use Rattle.formulas.proofs.Sizes.{entry, limits, most, within}
+use Rattle.formulas.proofs.Sizes.{entry, limits, most}
 
 -- a flue's temperature, analysed or not, has no more than sheet 1's range
 pub flue_in : (s : Stage) → StageIn s → In flue s.flue

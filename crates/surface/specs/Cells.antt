@@ -10,7 +10,7 @@ use Rattle.sheet.specs.declared.Stages.{Stages}
 use Rattle.sheet.specs.Firing.{Stage, Section, Firing}
 use Rattle.sheet.specs.Shown.{section, laid, unread_sections}
 use Rattle.sheet.specs.Block.{stages_of}
-use Rattle.sheet.specs.Quantities.{surface, near_air, minutes, walls_most}
+use Rattle.sheet.specs.Quantities.{surface, near_air, walls_most}
 use Rattle.document.specs.Lawful.{In, StageIn, SectionIn, Lawful}
 use Rattle.formulas.specs.Rounding.{fourth_root}
 use Rattle.formulas.specs.Sizes.{warmer_most}

@@ -2,7 +2,7 @@
 use borrow.Author.Rules.{rules}
 use mir.Syntax.{w32}
 use mir.Val.{SFits}
-use Rattle.quantity.proofs.Casts.{casts, widened, widens}
+use Rattle.quantity.proofs.Casts.{casts, widened}
 use Rattle.burning.proofs.mixed_heat.Statement.{statement}
 use Rattle.burning.proofs.mixed_heat.Tie as tie
 

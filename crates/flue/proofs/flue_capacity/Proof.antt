@@ -2,7 +2,7 @@
 use Prim.Native.Nat.{ℕ, ◌+◌, ◌^◌, ◌≤◌, ◌<◌}
 use mathlib.Core.Path.{◌≡◌, refl, sym, subst, ap, ◌∙◌}
 use mathlib.Core.Bool.{Bool, true, false, cond, not}
-use mathlib.Core.Option.{Option, none, some}
+use mathlib.Core.Option.{none, some}
 use mathlib.Core.List.{[], ◌∷◌}
 use native.Mathlib.Nat.{lt_of_le_of_lt}
 use native.Mathlib.Omega.{arith}
@@ -13,7 +13,7 @@ use lib.Signed.{◌≤ℤ◌, non_neg, yes_non_neg}
 use mir.Syntax.{w16, w64}
 use mir.Val.{Fits, SFits}
 use mir.Facts.{to_z-of_z}
-use Rattle.arith.specs.Nearest.{nearest, nearest_ℕ}
+use Rattle.arith.specs.Nearest.{nearest}
 use Rattle.arith.proofs.Ring.{v, ◌⊕◌}
 use Rattle.arith.proofs.Order.{arithℤ, parts, abs-pos, abs≤⁺}
 use Rattle.sheet.specs.declared.Stage.{Stage as Stageˢ}

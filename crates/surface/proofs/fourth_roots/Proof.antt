@@ -3,7 +3,6 @@ use Prim.Native.Nat.{◌*◌, ◌^◌, ◌≤◌}
 use mathlib.Core.Path.{◌≡◌, ap, ◌∙◌}
 use native.Mathlib.Nat.{lt_of_le_of_lt, mul-le-mul_right}
 use native.Mathlib.Omega.{arith}
-use borrow.Author.Rules.{rules}
 use lib.Dec.{lit<}
 use lib.ListN.{get_or}
 use Rattle.roots.specs.Root.{root}

@@ -2,7 +2,6 @@
 use mathlib.Core.Path.{refl}
 use native.Mathlib.Nat.{lt_of_le_of_lt, mul-le-mul_right}
 use native.Mathlib.Omega.{arith}
-use borrow.Author.Rules.{rules}
 use Rattle.surface.proofs.times.Statement.{statement}
 use Rattle.surface.proofs.times.Tie as tie
 

@@ -1,8 +1,6 @@
 -- The sums of both sides, from the joules of every heat. Assumes nothing.
-use mathlib.Core.Path.{refl, ap, ap₂, ◌∙◌}
-use mathlib.Core.List.{List, [], ◌∷◌}
-use lib.IntN.{ℤ, ◌+ℤ◌, ◌-ℤ◌}
-use borrow.Author.Rules.{rules}
+use Rattle.std.proofs.Common.{refl, ap, ◌∙◌, List, [], ◌∷◌, ℤ, ◌+ℤ◌, ◌-ℤ◌}
+use mathlib.Core.Path.{ap₂}
 use Rattle.arith.proofs.Ring.{v, ◌⊕◌, ring}
 use Rattle.arith.proofs.Machine.{Known, Mx, raw, ◌⟨+⟩◌, ◌⟨-⟩◌}
 use Rattle.sheet.specs.Firing.{Firing}
@@ -15,8 +13,7 @@ use Rattle.formulas.proofs.Units.{plus, minus}
 use Rattle.formulas.proofs.Sizes.{within, most, fit}
 use Rattle.formulas.proofs.Balance01.{in_is, spent_is}
 use Rattle.heat.proofs.Kept.{summed, laid}
-use Rattle.heat.proofs.balance.Statement.{statement}
-use Rattle.heat.proofs.balance.Tie as tie
+use Rattle.heat.proofs.balance.Goals as goal
 
 -- what is known of the heats, and the sums of it
 abbrev known : {f : Firing} {h : Heats} → Heated f h → List Known
@@ -37,13 +34,10 @@ gases = raw 10 ⟨+⟩ raw 11 ⟨+⟩ raw 12
 abbrev used : Mx
 used = raw 13 ⟨+⟩ raw 7 ⟨+⟩ raw 5
 
--- the heats of the firing that was asked for
-found : (c : tie.After-heats-of) → Heated c.before.requires.0 c.heats-of.result
-found c = c.heats-of.ensures _ c.before.requires.1
-
-five-requires : tie.Need-five-requires
-five-requires c κs =
-    let ks = known (found c) in
+-- of the heats of the firing that was asked for
+pub five-income-requires : goal.five-income-requires
+five-income-requires c =
+    let ks = known (c.heats_of-h.ensures _ c.requires.1) in
     record {
       two = fit ks (raw 0 ⟨+⟩ raw 1) tt;
       three = fit ks (raw 0 ⟨+⟩ raw 1 ⟨+⟩ raw 2) tt;
@@ -51,9 +45,9 @@ five-requires c κs =
       five = fit ks income tt;
     }
 
-five-requires-2 : tie.Need-five-requires-2
-five-requires-2 c κs =
-    let ks = known (found c.before) in
+pub five-solids-requires : goal.five-solids-requires
+five-solids-requires c =
+    let ks = known (c.heats_of-h.ensures _ c.requires.1) in
     record {
       two = fit ks (raw 5 ⟨+⟩ raw 6) tt;
       three = fit ks (raw 5 ⟨+⟩ raw 6 ⟨+⟩ raw 7) tt;
@@ -61,52 +55,37 @@ five-requires-2 c κs =
       five = fit ks solids tt;
     }
 
-three-requires : tie.Need-three-requires
-three-requires c κs = let ks = known (found c.before.before) in record { two = fit ks (raw 10 ⟨+⟩ raw 11) tt; three = fit ks gases tt }
+pub three-requires : goal.three-requires
+three-requires c =
+    let ks = known (c.heats_of-h.ensures _ c.requires.1) in
+    record { two = fit ks (raw 10 ⟨+⟩ raw 11) tt; three = fit ks gases tt }
 
-plus-requires : tie.Need-plus-requires
-plus-requires c κs = rw (c.before.five2.ensures, c.three.ensures) (fit (known (found c.before.before.before)) (solids ⟨+⟩ gases) tt)
+pub plus-spent-requires : goal.plus-spent-requires
+plus-spent-requires c = rw (c.five-solids.ensures, c.three.ensures) (fit (known (c.heats_of-h.ensures _ c.requires.1)) (solids ⟨+⟩ gases) tt)
 
--- behind the sum of what is spent: its joules, and those of what comes in
-abbrev P : tie.After-minus → tie.After-plus
-P c = c.before
+pub minus-x11-requires : goal.minus-x11-requires
+minus-x11-requires c =
+    rw (c.five-income.ensures, c.plus-spent.ensures, c.five-solids.ensures, c.three.ensures)
+    (fit (known (c.heats_of-h.ensures _ c.requires.1)) (income ⟨-⟩ (solids ⟨+⟩ gases)) tt)
 
-minus-requires : tie.Need-minus-requires
-minus-requires c κs =
-    let three = c.before in
-    let five2 = three.before in
-    rw (five2.before.five.ensures, c.plus.ensures, five2.five2.ensures, three.three.ensures)
-    (fit (known (found five2.before.before)) (income ⟨-⟩ (solids ⟨+⟩ gases)) tt)
-
-three-requires-2 : tie.Need-three-requires-2
-three-requires-2 c κs =
-    let ks = known (found (P c).before.before.before.before) in
+pub three-useful-requires : goal.three-useful-requires
+three-useful-requires c =
+    let ks = known (c.heats_of-h.ensures _ c.requires.1) in
     record { two = fit ks (raw 13 ⟨+⟩ raw 7) tt; three = fit ks used tt }
 
-plus-requires-2 : tie.Need-plus-requires-2
-plus-requires-2 c κs = rw c.three2.ensures (fit (known (found (P c.before).before.before.before.before)) (used ⟨+⟩ raw 8) tt)
-
--- before the sums are laid down
-abbrev sums_at : tie.After-struct-told5 → tie.After-struct-told
-sums_at c = c.before.before.before.before
+pub plus-withset-requires : goal.plus-withset-requires
+plus-withset-requires c = rw c.three-useful.ensures (fit (known (c.heats_of-h.ensures _ c.requires.1)) (used ⟨+⟩ raw 8) tt)
 
 -- one heat, and those behind it
 infixr 5 ◌&◌
 abbrev ◌&◌ : {A B : Type 0} → A → B → A × B
 ◌&◌ a b = (a, b)
 
-returns : tie.Need-returns
+pub returns : goal.returns
 unfolding x11 heats useful withset
 returns c =
-    let withset-at = (sums_at c).before in
-    let useful-at = withset-at.before in
-    let left_at = useful-at.before in
-    let spent-at = P left_at in
-    let gases-at = spent-at.before in
-    let solids-at = gases-at.before in
-    let income-at = solids-at.before in
     λ f k.
-    let h = income-at.before.heats-of.ensures f k in
+    let h = c.heats_of-h.ensures f k in
     let ks = known h in
     let order =
     ring (x1 f paper ∷ x2 f paper ∷ x3 f paper ∷ x5 f paper ∷ x10 f paper ∷ x7 f paper ∷ x8 f paper ∷ x9 f paper ∷ [])
@@ -115,15 +94,15 @@ returns c =
     let taken = plus (plus (plus (plus h.x1.is h.x2.is) h.x3.is) h.x5.is) h.x10.is in
     let expenses = plus taken (plus (plus h.x7.is h.x8.is) h.x9.is) in
     let uses = plus (plus h.water.is h.x3.is) h.x1.is in
-    let spent = spent-at.plus.ensures ∙ ap₂ ◌+ℤ◌ solids-at.five2.ensures gases-at.three.ensures in
-    let left = left_at.minus.ensures ∙ ap₂ ◌-ℤ◌ income-at.five.ensures spent in
-    let set = withset-at.plus2.ensures ∙ ap (λ (z : ℤ). z +ℤ income-at.before.heats-of.result.x5.0) useful-at.three2.ensures in
+    let spent = c.plus-spent.ensures ∙ ap₂ ◌+ℤ◌ c.five-solids.ensures c.three.ensures in
+    let left = c.minus-x11.ensures ∙ ap₂ ◌-ℤ◌ c.five-income.ensures spent in
+    let set = c.plus-withset.ensures ∙ ap (λ (z : ℤ). z +ℤ c.heats_of-h.result.x5.0) c.three-useful.ensures in
     laid h.q1 tt
     & laid h.q2 tt
     & laid h.q3 tt
     & laid h.q5 tt
     & laid h.q8 tt
-    & summed income-at.five.ensures (in_is f paper) incomes (most ks income tt)
+    & summed c.five-income.ensures (in_is f paper) incomes (most ks income tt)
     & laid h.x1 tt
     & laid h.x2 tt
     & laid h.x3 tt
@@ -133,20 +112,6 @@ returns c =
     & laid h.x9 tt
     & laid h.x10 tt
     & summed left (ap₂ ◌-ℤ◌ (in_is f paper) (spent_is f paper ∙ order)) (minus incomes expenses) (most ks (income ⟨-⟩ (solids ⟨+⟩ gases)) tt)
-    & summed useful-at.three2.ensures refl uses (most ks used tt)
+    & summed c.three-useful.ensures refl uses (most ks used tt)
     & summed set refl (plus uses h.x5.is) (most ks (used ⟨+⟩ raw 8) tt)
     & tt
-
-pub balance_spec : {M : Type 1} → statement M
-balance_spec =
-    tie.close
-    (tie.spec
-    (λ c κs. search rules)
-    five-requires
-    five-requires-2
-    three-requires
-    plus-requires
-    minus-requires
-    three-requires-2
-    plus-requires-2
-    returns)
