@@ -21,65 +21,65 @@ use Rattle.report.proofs.Printing.{per_tonne_can, of-fuel_can, number_is, per_to
 use Rattle.report.proofs.joules.figures.Statement.{statement}
 use Rattle.report.proofs.joules.figures.Tie as tie
 
-abbrev invariant-loop : tie.invariant-loop
+abbrev invariant-loop : tie.invariant-loop-i
 invariant-loop product heats out₀ i₀ out i =
     (i ≤ heat_count shuttle)
     × (length heats ≡ heat_count shuttle)
     × (length out ≡ line_count shuttle)
     × ((f : Firing) (n : ℤ) → Found f n product.0 heats → take 1 out₀ ≡ take 1 (figures f) → take (i + 1) out ≡ take (i + 1) (figures f))
 
-abbrev decreases-loop : tie.decreases-loop
+abbrev decreases-loop : tie.decreases-loop-i
 decreases-loop product heats out₀ i₀ out i = heat_count shuttle - i
 
 -- the places that others are reached from: the start, and the end of the loop
-abbrev start : tie.At-loop invariant-loop decreases-loop → tie.Start invariant-loop decreases-loop
+abbrev start : tie.At-loop-i invariant-loop decreases-loop → tie.Start invariant-loop decreases-loop
 start c = c.before.before.before
 
-abbrev done : tie.After-of-fuel invariant-loop decreases-loop → tie.At-loop invariant-loop decreases-loop
+abbrev done : tie.After-of_fuel invariant-loop decreases-loop → tie.At-loop-i invariant-loop decreases-loop
 done c = c.before.before.before.before
 
-narrow : (c : tie.After-struct-told invariant-loop decreases-loop) → SFits w32 c.before.before.args.number.0
+narrow : (c : tie.After-struct_told-1 invariant-loop decreases-loop) → SFits w32 c.args.number.0
 narrow c = search rules
 
-loop-holds : tie.Need-loop-init invariant-loop decreases-loop
+loop-holds : tie.Need-loop-i-init invariant-loop decreases-loop
 loop-holds c = (omega arith, omega arith, omega arith, λ f n p e. e)
 
-per-tonne-requires : tie.Need-per-tonne-requires invariant-loop decreases-loop
-per-tonne-requires c κs = let turn = c.before.before in per_tonne_can (start turn).requires.1 turn.loop.i (omega arith)
+per-tonne-requires : tie.Need-per_tonne-requires invariant-loop decreases-loop
+per-tonne-requires c κs = let turn = c.before.before in per_tonne_can (start turn).requires.1 turn.loop-i.i (omega arith)
 
-loop-again : tie.Need-loop-preserved invariant-loop decreases-loop
+loop-again : tie.Need-loop-i-preserved invariant-loop decreases-loop
 loop-again c =
-    let l = c.before.before.before.loop in
-    let z = to_z w64 (of_z w64 c.per-tonne.result) in (
+    let l = c.loop-i in
+    let z = to_z w64 (of_z w64 c.per_tonne.result) in (
       omega arith,
       l.invariant.1,
       set_long ℤ l.out (l.i + 1) (line_count shuttle) z l.invariant.2,
       λ f n p first. filled (l.i + 1) l.out (figures f) z (omega arith) (omega (arith, figures-long f)) (l.invariant.3 f n p first)
-          (to_z-of_z (sfits_of c.per-tonne.type-inv) ∙ c.per-tonne.ensures ∙ per_tonne_is p l.i (omega arith)),
+          (to_z-of_z (sfits_of c.per_tonne.ok) ∙ c.per_tonne.ensures ∙ per_tonne_is p l.i (omega arith)),
     )
 
-of-fuel-requires : tie.Need-of-fuel-requires invariant-loop decreases-loop
-of-fuel-requires c κs = of-fuel_can (start c.before.before.before).pre.1 useful-at (lit< tt)
+of-fuel-requires : tie.Need-of_fuel-requires invariant-loop decreases-loop
+of-fuel-requires c κs = of-fuel_can (start c.before.before.before).requires.1 useful-at (lit< tt)
 
-of-fuel-requires-2 : tie.Need-of-fuel-requires-2 invariant-loop decreases-loop
-of-fuel-requires-2 c κs = of-fuel_can (start (done c.before.before)).pre.1 withset-at (lit< tt)
+of-fuel-requires-2 : tie.Need-of_fuel-requires-2 invariant-loop decreases-loop
+of-fuel-requires-2 c κs = of-fuel_can (start (done c.before.before)).requires.1 withset-at (lit< tt)
 
 returns : tie.Need-returns invariant-loop decreases-loop
 returns c =
     let a = c.before.before.before in
-    let l = (done a).loop in
-    let x = to_z w64 (of_z w64 a.of-fuel.result) in
-    let y = to_z w64 (of_z w64 c.of-fuel2.result) in
+    let l = (done a).loop-i in
+    let x = to_z w64 (of_z w64 a.of_fuel.result) in
+    let y = to_z w64 (of_z w64 c.of_fuel-2.result) in
     λ f p.
     let long = figures-long f in
     let end : l.i ≡ heat_count shuttle = omega arith in
     let first = filled 0 (pos 0 ∷ []) (figures f) _ (lit< tt) (omega (arith, long)) refl (widened (narrow (done a).before) ∙ number_is p) in
-    let heats = subst (λ (i : ℕ). take (i + 1) l.out ≡ take (i + 1) (figures f)) end (l.inv.3 f _ p first) in
+    let heats = subst (λ (i : ℕ). take (i + 1) l.out ≡ take (i + 1) (figures f)) end (l.invariant.3 f _ p first) in
     let eff1 = filled eff1_at l.out (figures f) x (omega arith) (omega (arith, long)) heats
-    (to_z-of_z (sfits_of a.of-fuel.type-inv) ∙ a.of-fuel.ensures ∙ eff1_is p) in
-    let long1 = set_long ℤ l.out eff1_at (line_count shuttle) x l.inv.2 in
+    (to_z-of_z (sfits_of a.of_fuel.type_inv) ∙ a.of_fuel.ensures ∙ eff1_is p) in
+    let long1 = set_long ℤ l.out eff1_at (line_count shuttle) x l.invariant.2 in
     let eff2 = filled eff2_at (set l.out eff1_at x) (figures f) y (omega (arith, long1)) (omega (arith, long)) eff1
-    (to_z-of_z (sfits_of c.of-fuel2.type-inv) ∙ c.of-fuel2.ensures ∙ eff2_is p) in
+    (to_z-of_z (sfits_of c.of_fuel-2.type_inv) ∙ c.of_fuel-2.ensures ∙ eff2_is p) in
     full (line_count shuttle) _ (figures f) (set_long ℤ (set l.out eff1_at x) eff2_at (line_count shuttle) y long1) long eff2
 
 pub figures_spec : {M : Type 1} → statement M

@@ -5,7 +5,7 @@ use mir.Facts.{to_z-of_z}
 use Rattle.report.proofs.joules.of_fuel.Statement.{statement}
 use Rattle.report.proofs.joules.of_fuel.Tie as tie
 
-mul-nearest : tie.Need-overflow-mul-nearest
+mul-nearest : tie.Need-overflow_mul-heat
 mul-nearest c = search rules
 
 nearest-requires : tie.Need-nearest-requires
@@ -14,7 +14,7 @@ nearest-requires c κs = search rules
 returns : tie.Need-returns
 returns c =
     let s = c.before in
-    to_z-of_z (sfits_of c.nearest.type-inv) ∙ (simp (to_z-of_z s.ranges.heat, to_z-of_z s.ranges.q1, to_z-of_z s.requires.fits) at c.nearest.ensures)
+    to_z-of_z (sfits_of c.nearest.type_inv) ∙ (simp (to_z-of_z s.ranges.heat, to_z-of_z s.ranges.q1, to_z-of_z s.requires.fits) at c.nearest.ensures)
 
 pub of_fuel_spec : {M : Type 1} → statement M
 of_fuel_spec = tie.close (tie.spec mul-nearest nearest-requires returns)

@@ -8,13 +8,13 @@ use Rattle.quantity.proofs.Casts.{widened, widens}
 use Rattle.report.proofs.joules.per_tonne.Statement.{statement}
 use Rattle.report.proofs.joules.per_tonne.Tie as tie
 
-narrow : (c : tie.After-struct-told) → SFits w32 c.before.before.args.product.0
+narrow : (c : tie.After-struct_told-1) → SFits w32 c.args.product.0
 narrow c = search rules
 
-mul-nearest : tie.Need-overflow-mul-nearest
+mul-nearest : tie.Need-overflow_mul-heat
 mul-nearest c = search rules
 
-cast-nearest : tie.Need-overflow-cast-nearest
+cast-nearest : tie.Need-overflow_cast-product
 cast-nearest c = widens (narrow c)
 
 nearest-requires : tie.Need-nearest-requires
@@ -23,7 +23,7 @@ nearest-requires c κs = rw (widened (narrow c)) (search rules)
 returns : tie.Need-returns
 returns c =
     let s = c.before.before.before in
-    to_z-of_z (sfits_of c.nearest.type-inv) ∙ (rw (to_z-of_z s.ranges.heat, widened (narrow c.before), to_z-of_z s.requires.fits) at c.nearest.ensures)
+    to_z-of_z (sfits_of c.nearest.type_inv) ∙ (rw (to_z-of_z s.ranges.heat, widened (narrow c.before), to_z-of_z s.requires.fits) at c.nearest.ensures)
 
 pub per_tonne_spec : {M : Type 1} → statement M
 per_tonne_spec = tie.close (tie.spec mul-nearest cast-nearest nearest-requires returns)

@@ -12,15 +12,15 @@ use Rattle.report.proofs.Room.{in_room}
 use Rattle.report.proofs.writing.fits.Statement.{statement}
 use Rattle.report.proofs.writing.fits.Tie as tie
 
-returns : tie.Need-returns
+returns : tie.Need-returns-then-room-ge-MOST
 returns c =
-    let a = c.before.args in
-    let most = in_room a.figures.now c.before.requires in
+    let a = c.args in
+    let most = in_room a.figures.now c.requires in
     (sym (le-leb (length (lines_text (keys shuttle) a.figures.now)) a.room (omega (arith, most))), most)
 
-returns-2 : tie.Need-returns-2
+returns-2 : tie.Need-returns
 returns-2 c =
-    let a = c.before.before.before.args in
+    let a = c.args in
     (ap (λ (n : ℕ). leb n a.room) c.length.ensures.0, omega (arith, c.length.ensures.0, c.length.ensures.1))
 
 pub fits_spec : {M : Type 1} → statement M

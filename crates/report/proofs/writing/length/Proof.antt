@@ -18,41 +18,41 @@ use Rattle.report.proofs.Lines.{no_lines, longer}
 use Rattle.report.proofs.writing.length.Statement.{statement}
 use Rattle.report.proofs.writing.length.Tie as tie
 
-abbrev invariant-loop : tie.invariant-loop
+abbrev invariant-loop : tie.invariant-loop-i
 invariant-loop figures n₀ i₀ n i =
     (i ≤ line_count shuttle)
     × (length figures ≡ line_count shuttle)
     × (n ≡ length (lines_text (keys shuttle) (take i figures)))
     × (n ≤ line_most * i)
 
-abbrev decreases-loop : tie.decreases-loop
+abbrev decreases-loop : tie.decreases-loop-i
 decreases-loop figures n₀ i₀ n i = line_count shuttle - i
 
-loop-holds : tie.Need-loop-init invariant-loop decreases-loop
+loop-holds : tie.Need-loop-i-init invariant-loop decreases-loop
 loop-holds c = (omega arith, omega arith, sym (ap length (no_lines (keys shuttle))), omega arith)
 
-mul-line-length : tie.Need-overflow-mul-line-length invariant-loop decreases-loop
+mul-line-length : tie.Need-offset_bounds-figures-i invariant-loop decreases-loop
 mul-line-length c = omega arith
 
-array-copy-out-line-length : tie.Need-array-copy-out-line-length invariant-loop decreases-loop
+array-copy-out-line-length : tie.Need-bounds-figures-i invariant-loop decreases-loop
 array-copy-out-line-length c = omega arith
 
-line-length-requires : tie.Need-line-length-requires invariant-loop decreases-loop
+line-length-requires : tie.Need-line_length-n-requires invariant-loop decreases-loop
 line-length-requires c κs = omega arith
 
-add-n : tie.Need-overflow-add-n invariant-loop decreases-loop
+add-n : tie.Need-overflow_add-n invariant-loop decreases-loop
 add-n c = omega arith
 
-add-i : tie.Need-overflow-add-i invariant-loop decreases-loop
+add-i : tie.Need-overflow_add-i invariant-loop decreases-loop
 add-i c = omega arith
 
-loop-less : tie.Need-loop-smaller invariant-loop decreases-loop
+loop-less : tie.Need-loop-i-smaller invariant-loop decreases-loop
 loop-less c = omega arith
 
-loop-again : tie.Need-loop-preserved invariant-loop decreases-loop
+loop-again : tie.Need-loop-i-preserved invariant-loop decreases-loop
 loop-again c =
-    let l = c.before.before.before.loop in
-    let zs = c.before.before.before.before.args.t1 in
+    let l = c.loop-i in
+    let zs = c.args.figures in
     let z = to_z-of_z {w = w64} {z = get_or zs l.i (pos 0)} (sfits_of c.before.line-length-arg.given) in
     let e = ap (λ (z : ℤ). length (line (get_or (keys shuttle) l.i []) z)) z in
     let m = longer (keys shuttle) zs l.i (pos 0) (omega (arith, keys-count)) (omega arith) in
@@ -60,8 +60,8 @@ loop-again c =
 
 returns : tie.Need-returns invariant-loop decreases-loop
 returns c =
-    let l = c.before.loop in
-    let zs = c.before.before.args.t1 in
+    let l = c.loop-i in
+    let zs = c.args.figures in
     let end : l.i ≡ length zs = omega arith in
     let all = ap (λ (k : ℕ). lines_text (keys shuttle) (take k zs)) end ∙ ap (lines_text (keys shuttle)) (take-length zs) in
     (l.invariant.2 ∙ ap length all, omega arith)

@@ -14,7 +14,7 @@ use Rattle.report.proofs.Keys.{key-at}
 use Rattle.report.proofs.writing.line_length.Statement.{statement}
 use Rattle.report.proofs.writing.line_length.Tie as tie
 
-add-key : tie.Need-overflow-add-key
+add-key : tie.Need-overflow_add-key
 add-key c = search rules
 
 array-read-key : tie.Need-array-read-key
@@ -23,10 +23,10 @@ array-read-key c = search rules
 array-read-key-2 : tie.Need-array-read-key-2
 array-read-key-2 c = search rules
 
-sub-key : tie.Need-overflow-sub-key
+sub-key : tie.Need-overflow_sub-key
 sub-key c = (key-at c.args.i c.requires).order
 
-cast-result : tie.Need-overflow-cast-result
+cast-result : tie.Need-overflow_cast-result
 cast-result c = let short = (key-at c.args.i c.requires).short in omega arith
 
 width-requires : tie.Need-width-requires
@@ -36,23 +36,23 @@ width-requires c κs = search rules
 wide : (c : tie.Start) (n : ℤ) → n ≡ c.args.figure → length (decimal n) ≡ length (decimal c.args.figure)
 wide c n e = ap (λ (x : ℤ). length (decimal x)) e
 
-add-result : tie.Need-overflow-add-result
+add-result : tie.Need-overflow_add-result
 add-result c =
     let s = c.before in
-    let w = c.width.ensures ∙ wide s _ (to_z-of_z s.ranges.figure) in
+    let w = c.width.ensures ∙ wide s.before.before.before.before _ (to_z-of_z s.ranges.figure) in
     omega (arith, (key-at s.args.i s.requires).short, i64_width s.args.figure s.ranges.figure, w)
 
-add-result-2 : tie.Need-overflow-add-result-2
+add-result-2 : tie.Need-overflow_add-result-2
 add-result-2 c =
     let s = c.before in
-    let w = c.width.ensures ∙ wide s _ (to_z-of_z s.ranges.figure) in
+    let w = c.width.ensures ∙ wide s.before.before.before.before _ (to_z-of_z s.ranges.figure) in
     omega (arith, (key-at s.args.i s.requires).short, i64_width s.args.figure s.ranges.figure, w)
 
 returns : tie.Need-returns
 returns c =
     let s = c.before in
     let k = key-at s.args.i s.requires in
-    let w = c.width.ensures ∙ wide s _ (to_z-of_z s.ranges.figure) in
+    let w = c.width.ensures ∙ wide s.before.before.before.before _ (to_z-of_z s.ranges.figure) in
     let parts = length-line (get_or (keys shuttle) s.args.i []) s.args.figure in
     (omega (arith, parts, k.size, w), omega (arith, k.short, i64_width s.args.figure s.ranges.figure, w))
 

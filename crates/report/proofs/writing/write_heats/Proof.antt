@@ -21,21 +21,21 @@ text : (zs : List ℤ) → length zs ≡ heat_count shuttle → lines_text (drop
 unfolding heat_keys heats
 text zs e = ap (λ (ks : List (List ℕ)). lines_text ks zs) heat-keys ∙ keys-behind (heat_keys shuttle) (bytes "eff1" ∷ bytes "eff2" ∷ []) zs (omega arith)
 
-most : (s : tie.Start) → length (lines_text (heat_keys shuttle) s.args.t2) ≤ heats_most
-most s = heats_in_room s.args.t2 s.well-formed.1.0.0 s.well-formed.1.0.1.1
+most : (s : tie.Start) → length (lines_text (heat_keys shuttle) s.args.heats) ≤ heats_most
+most s = heats_in_room s.args.heats s.good.1.0.0 s.good.1.0.1.1
 
-same : (s : tie.Start) → lines_text (drop 1 (keys shuttle)) s.args.t2 ≡ lines_text (heat_keys shuttle) s.args.t2
-same s = text s.args.t2 (omega arith)
+same : (s : tie.Start) → lines_text (drop 1 (keys shuttle)) s.args.heats ≡ lines_text (heat_keys shuttle) s.args.heats
+same s = text s.args.heats (omega arith)
 
 returns : tie.Need-returns
 returns c =
     let put = c.before.before in
     let s = put.before.before.before.before in
-    let w = put.write-from in
-    let lines = subst (λ (t : List ℕ). Written 0 t s.args.out.now w.new.0 w.result) (same s) w.ensures in
+    let w = put.write_from in
+    let lines = subst (λ (t : List ℕ). Written 0 t s.args.out.now w.new.out w.result) (same s) w.ensures in
     (lines, omega (arith, lines.ends, most s))
 
-write-from-requires : tie.Need-write-from-requires
+write-from-requires : tie.Need-write_from-requires
 write-from-requires c κs =
     let s = c.before.before.before in
     (omega arith, omega (arith, ap length (same s), most s, s.requires))

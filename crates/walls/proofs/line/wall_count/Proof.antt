@@ -14,4 +14,4 @@ returns c =
     counted (bytes "walls") 0 walls_most d.result.values t.result.value.0 d.ensures.after t.ensures tt c.ranged-place.ensures
 
 pub wall_count_spec : {M : Type 1} → statement M
-wall_count_spec = tie.close (tie.spec (λ c. search rules) (λ c κs. search rules) (λ c. search rules) (λ c κs. search rules) (λ c κs. search rules) returns)
+wall_count_spec = tie.close (tie.spec (λ c. search rules) (λ c. search rules) (λ c. search rules) (λ c. search rules) returns)

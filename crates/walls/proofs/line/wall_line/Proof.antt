@@ -38,4 +38,4 @@ returns c =
     }
 
 pub wall_line_spec : {M : Type 1} → statement M
-wall_line_spec = tie.close (tie.spec (λ c. search rules) (λ c κs. search rules) (λ c κs. search rules) (λ c κs. search rules) returns)
+wall_line_spec = tie.close (tie.spec (λ c. search rules) (λ c. search rules) (λ c. search rules) returns)

@@ -43,7 +43,7 @@ loop-holds c =
     rw c.reading-none.ensures (
       omega arith,
       a.requires.0,
-      omega (arith, numbers-length a.args.sections c.Numbers-of.ensures),
+      omega (arith, numbers-length a.args.sections c.numbers_of-numbers.ensures),
       a.requires.1,
       λ sections same seen e f g. block_start a.args.s.now wall_line wall-rule seen a.args.start
           (WallsShown (shown sections a.args.count) unread_sections) (none-shown _) a.requires.1.fair,
@@ -80,34 +80,34 @@ loop-again c =
     let l = named-at.named_wall-l in
     let at = (turn named-at).loop-i in
     let a = (start (turn named-at)).args in
-    let named = (turn named-at).before.Numbers-of.ensures in
+    let named = (turn named-at).before.numbers_of-numbers.ensures in
     let w = wall l.result.wall in
     let readings = by_section at.cells in
     let settles = settled-row at.cells at.p.line l.result ruled.read_once-p.result ruled.read_once-p.ensures in
     let laid_in : good (settled at.p.line l.result readings) ≡ true → by_section c.if-p-eq0.cells ≡ stored l.result readings =
-    ⊎_elim (λ t g. ap by_section t.2 ∙ lay-row at.cells l.result.row (column w) _
-    ∙ ap (λ (x : Reading). lay readings l.result.row (column w) x) t.1.ensures)
-    (λ t g. not-both (good ruled.read_once-p.result) (ap good settles ∙ g) (is-bad ruled.read_once-p.result t.0.left))
-    c.if-p-eq0.branch in (
+    ⊎_elim (λ t g. ap by_section t.cells-is ∙ lay-row at.cells l.result.row (column w) _
+    ∙ ap (λ (x : Reading). lay readings l.result.row (column w) x) t.reading_of-x.ensures)
+    (λ t g. not-both (good ruled.read_once-p.result) (ap good settles ∙ g) (is-bad ruled.read_once-p.result t.if-p-eq0.false))
+    c.if-p-eq0.branch-raw in (
       omega arith,
-      at.inv.1,
-      at.inv.2,
+      at.invariant.1,
+      at.invariant.2,
       rw settles (record {
-        short = at.inv.3.short;
+        short = at.invariant.3.short;
         fair = settled-fair at.p.line l.result readings (l.ensures.after a.sections named).fair;
       }),
       λ sections same.
-          let room : a.count ≤ length sections = omega (arith, at.inv.2, numbers-length sections same) in
-          let few : length (shown sections a.count) ≤ sections_most = omega (arith, at.inv.1, shown-length a.count sections room) in
+          let room : a.count ≤ length sections = omega (arith, at.invariant.2, numbers-length sections same) in
+          let few : length (shown sections a.count) ≤ sections_most = omega (arith, at.invariant.1, shown-length a.count sections room) in
           λ seen e g h. rw settles
           (next a.s.now (shown sections a.count) a.stages few seen e g h a.start at.p l.result at.i readings
-          (by_section c.if-p-eq0.cells) (at.inv.4 sections same seen e g h) (l.ensures.after sections same) laid_in),
+          (by_section c.if-p-eq0.cells) (at.invariant.4 sections same seen e g h) (l.ensures.after sections same) laid_in),
     )
 
 add-i : tie.Need-overflow_add-i invariant-loop decreases-loop
 add-i c =
     let l = line (cell_at c.before.before) in
-    omega (arith, l.loop-i-test.taken, (start (turn l)).fits.n)
+    omega (arith, l.loop-i-test.true, (start (turn l)).ranges.n)
 
 returns : tie.Need-returns invariant-loop decreases-loop
 returns c =
@@ -115,7 +115,7 @@ returns c =
     let at = turns.loop-i in
     let a = (start turns).args in
     let e : at.i ≡ a.n = omega arith in
-    rw (c.by_section-readings.ensures, ← e) (at.invariant.4 a.sections turns.before.Numbers-of.ensures)
+    rw (c.by_section-readings.ensures, ← e) (at.invariant.4 a.sections turns.before.numbers_of-numbers.ensures)
 
 pub wall_rows_spec : {M : Type 1} → statement M
 wall_rows_spec =
