@@ -10,9 +10,9 @@ use Rattle.lines.proofs.ends.edition_line.Tie as tie
 returns : tie.Need-returns
 returns c =
     let checked = c.before.before.before in
-    let t = checked.checked in
-    let d = checked.before.before.before.due in
-    alone sheet_line d.result.values (pos t.result.value.0) d.ensures.after (t.ensures & done) c.before.ranged.ensures
+    let t = checked.checked-t in
+    let d = checked.due-d in
+    alone sheet_line d.result.values (pos t.result.value.0) d.ensures.after (t.ensures & done) c.ranged-place.ensures
 
 pub edition_line_spec : {M : Type 1} → statement M
-edition_line_spec = tie.close (tie.spec (λ c. search rules) (λ c κs. search rules) (λ c. search rules) (λ c κs. search rules) (λ c κs. search rules) returns)
+edition_line_spec = tie.close (tie.spec (λ c. search rules) (λ c. search rules) (λ c. search rules) (λ c. search rules) returns)

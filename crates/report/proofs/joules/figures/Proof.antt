@@ -55,7 +55,7 @@ loop-again c =
       l.invariant.1,
       set_long ℤ l.out (l.i + 1) (line_count shuttle) z l.invariant.2,
       λ f n p first. filled (l.i + 1) l.out (figures f) z (omega arith) (omega (arith, figures-long f)) (l.invariant.3 f n p first)
-          (to_z-of_z (sfits_of c.per_tonne.ok) ∙ c.per_tonne.ensures ∙ per_tonne_is p l.i (omega arith)),
+          (to_z-of_z {w = w64} (sfits_of c.per_tonne.type_inv) ∙ c.per_tonne.ensures ∙ per_tonne_is p l.i (omega arith)),
     )
 
 of-fuel-requires : tie.Need-of_fuel-requires invariant-loop decreases-loop
@@ -76,10 +76,10 @@ returns c =
     let first = filled 0 (pos 0 ∷ []) (figures f) _ (lit< tt) (omega (arith, long)) refl (widened (narrow (done a).before) ∙ number_is p) in
     let heats = subst (λ (i : ℕ). take (i + 1) l.out ≡ take (i + 1) (figures f)) end (l.invariant.3 f _ p first) in
     let eff1 = filled eff1_at l.out (figures f) x (omega arith) (omega (arith, long)) heats
-    (to_z-of_z (sfits_of a.of_fuel.type_inv) ∙ a.of_fuel.ensures ∙ eff1_is p) in
+    (to_z-of_z {w = w64} (sfits_of a.of_fuel.type_inv) ∙ a.of_fuel.ensures ∙ eff1_is p) in
     let long1 = set_long ℤ l.out eff1_at (line_count shuttle) x l.invariant.2 in
     let eff2 = filled eff2_at (set l.out eff1_at x) (figures f) y (omega (arith, long1)) (omega (arith, long)) eff1
-    (to_z-of_z (sfits_of c.of_fuel-2.type_inv) ∙ c.of_fuel-2.ensures ∙ eff2_is p) in
+    (to_z-of_z {w = w64} (sfits_of c.of_fuel-2.type_inv) ∙ c.of_fuel-2.ensures ∙ eff2_is p) in
     full (line_count shuttle) _ (figures f) (set_long ℤ (set l.out eff1_at x) eff2_at (line_count shuttle) y long1) long eff2
 
 pub figures_spec : {M : Type 1} → statement M

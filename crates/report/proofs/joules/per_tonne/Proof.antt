@@ -4,6 +4,7 @@ use mathlib.Core.Path.{◌∙◌}
 use mir.Syntax.{w32}
 use mir.Val.{SFits}
 use mir.Facts.{to_z-of_z}
+use mir.Syntax.{w64}
 use Rattle.quantity.proofs.Casts.{widened, widens}
 use Rattle.report.proofs.joules.per_tonne.Statement.{statement}
 use Rattle.report.proofs.joules.per_tonne.Tie as tie
@@ -23,7 +24,7 @@ nearest-requires c κs = rw (widened (narrow c)) (search rules)
 returns : tie.Need-returns
 returns c =
     let s = c.before.before.before in
-    to_z-of_z (sfits_of c.nearest.type_inv) ∙ (rw (to_z-of_z s.ranges.heat, widened (narrow c.before), to_z-of_z s.requires.fits) at c.nearest.ensures)
+    to_z-of_z {w = w64} (sfits_of c.nearest.type_inv) ∙ (rw (to_z-of_z {w = w64} s.ranges.heat, widened (narrow c.before), to_z-of_z {w = w64} s.requires.fits) at c.nearest.ensures)
 
 pub per_tonne_spec : {M : Type 1} → statement M
 per_tonne_spec = tie.close (tie.spec mul-nearest cast-nearest nearest-requires returns)

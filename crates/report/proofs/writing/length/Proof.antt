@@ -53,7 +53,7 @@ loop-again : tie.Need-loop-i-preserved invariant-loop decreases-loop
 loop-again c =
     let l = c.loop-i in
     let zs = c.args.figures in
-    let z = to_z-of_z {w = w64} {z = get_or zs l.i (pos 0)} (sfits_of c.before.line-length-arg.given) in
+    let z = to_z-of_z {w = w64} {z = get_or zs l.i (pos 0)} (sfits_of c.line_length-arg-1.given) in
     let e = ap (λ (z : ℤ). length (line (get_or (keys shuttle) l.i []) z)) z in
     let m = longer (keys shuttle) zs l.i (pos 0) (omega (arith, keys-count)) (omega arith) in
     (omega arith, l.invariant.1, omega (arith, e, m), omega arith)

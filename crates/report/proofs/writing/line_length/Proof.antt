@@ -17,10 +17,10 @@ use Rattle.report.proofs.writing.line_length.Tie as tie
 add-key : tie.Need-overflow_add-key
 add-key c = search rules
 
-array-read-key : tie.Need-array-read-key
+array-read-key : tie.Need-bounds-i
 array-read-key c = search rules
 
-array-read-key-2 : tie.Need-array-read-key-2
+array-read-key-2 : tie.Need-bounds-i-2
 array-read-key-2 c = search rules
 
 sub-key : tie.Need-overflow_sub-key

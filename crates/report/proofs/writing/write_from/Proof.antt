@@ -66,10 +66,10 @@ sub-line-at : tie.Need-slice_bounds-line_at-count invariant-loop decreases-loop
 sub-line-at c = rw c.loop-i.invariant.1 (key c.before).order
 
 part-line-at-start : tie.Need-slice_bounds-line_at-start invariant-loop decreases-loop
-part-line-at-start c = rw c.loop-i.invariant.1 (key c.before.before).order
+part-line-at-start c = rw c.loop-i.invariant.1 (key c.before).order
 
 part-line-at-end : tie.Need-slice_bounds-line_at-end invariant-loop decreases-loop
-part-line-at-end c = (key c.before.before).within
+part-line-at-end c = (key c.before).within
 
 mul-line-at : tie.Need-offset_bounds-figures-i invariant-loop decreases-loop
 mul-line-at c = search rules
@@ -79,7 +79,7 @@ shared-slice-copy-out-line-at c = omega arith
 
 -- at the call: the turn, the loop's variables and the parameters
 abbrev I : (c : tie.After-line_at-arg-in-loop-i-2-1 invariant-loop decreases-loop) → tie.In-loop-i invariant-loop decreases-loop
-I c = c.before.before.before.before
+I c = c.before.before.before
 
 abbrev L : (c : tie.After-line_at-arg-in-loop-i-2-1 invariant-loop decreases-loop) → tie.At-loop-i invariant-loop decreases-loop
 L c = (I c).before
@@ -105,7 +105,7 @@ as_called : (c : tie.After-line_at-arg-in-loop-i-2-1 invariant-loop decreases-lo
 as_called c =
     let begun-at = ap (λ (n : ℕ). between n (start (due (I c) + 1))) (L c).loop-i.invariant.1 in
     let k = begun-at ∙ (key (I c)).key ∙ sym (get_or-drop (S c).args.first (keys shuttle) (L c).loop-i.i []) in
-    ap₂ line k (to_z-of_z (sfits_of c.line_at-arg-in-loop-i-2-1.given))
+    ap₂ line k (to_z-of_z {w = w64} (sfits_of c.line_at-arg-in-loop-i-2-1.given))
 
 -- what the turn will have written
 turn : (c : tie.After-line_at-arg-in-loop-i-2-1 invariant-loop decreases-loop) → lines_text (ks c) (take ((L c).loop-i.i + 1) (zs c)) ≡ before c ++ called c

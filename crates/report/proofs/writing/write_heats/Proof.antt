@@ -22,7 +22,7 @@ unfolding heat_keys heats
 text zs e = ap (λ (ks : List (List ℕ)). lines_text ks zs) heat-keys ∙ keys-behind (heat_keys shuttle) (bytes "eff1" ∷ bytes "eff2" ∷ []) zs (omega arith)
 
 most : (s : tie.Start) → length (lines_text (heat_keys shuttle) s.args.heats) ≤ heats_most
-most s = heats_in_room s.args.heats s.good.1.0.0 s.good.1.0.1.1
+most s = heats_in_room s.args.heats s.well_formed.1.0.0 s.well_formed.1.0.1.1
 
 same : (s : tie.Start) → lines_text (drop 1 (keys shuttle)) s.args.heats ≡ lines_text (heat_keys shuttle) s.args.heats
 same s = text s.args.heats (omega arith)
