@@ -23,13 +23,13 @@ pieces : (n l f : ℕ) → (refused_at n l ++ behind_comma f) ++ bytes "\n" ≡ 
 pieces n l f = grouped (refused_at n l) (behind_comma f) (bytes "\n")
 
 -- the places where the number with its line, and the field, are put
-abbrev line : tie.After-behind-comma → tie.After-refused-at
+abbrev line : tie.After-behind_comma-field → tie.After-refused_at-line
 line c = c.before.before.before.before
 
-abbrev field : tie.After-bytes-at → tie.After-behind-comma
-field c = let lent = c.before.before in lent.before.before.before
+abbrev field : tie.After-bytes_at → tie.After-behind_comma-field
+field c = let lent = c.before.before in lent.before.before.before.before
 
-abbrev start : tie.After-refused-at → tie.Start
+abbrev start : tie.After-refused_at-line → tie.Start
 start c = c.before.before.before
 
 -- line and field are numbers of 32 bits, so the text of each is short, whichever is put last
@@ -37,25 +37,25 @@ record Short (l f : ℕ) : Type 0 where
   line : length (decimal (pos l)) ≤ 11
   field : length (decimal (pos f)) ≤ 11
 
-both-short : (c : tie.After-refused-at) → let a = (start c).args.answer in Short a.line a.field
+both-short : (c : tie.After-refused_at-line) → let a = (start c).args.answer in Short a.line a.field
 both-short c =
     let a = (start c).args.answer in
-    let g = (start c).well-formed in
+    let g = (start c).well_formed in
     record { line = short a.line (omega (arith, g)); field = short a.field (omega (arith, g)) }
 
-behind-comma-requires : tie.Need-behind-comma-requires
+behind-comma-requires : tie.Need-behind_comma-field-requires
 behind-comma-requires c κs =
     let l = c.before.before.before in
     let q = both-short l in
-    omega (arith, (start l).requires, q.line, q.field, l.refused-at.ensures.1, l.refused-at.auto.0)
+    omega (arith, (start l).requires, q.line, q.field, l.refused_at-line.ensures.1, l.refused_at-line.auto.out)
 
-bytes-at-requires : tie.Need-bytes-at-requires
+bytes-at-requires : tie.Need-bytes_at-requires
 bytes-at-requires c κs =
     let f = c.before.before.before.before in
-    let l = line f in
-    let b = f.behind-comma in
+    let l = line f.before in
+    let b = f.behind_comma-field in
     let q = both-short l in
-    omega (arith, (start l).pre, q.line, q.field, l.refused-at.ensures.1, l.refused-at.kept.0, b.ensures.ends, b.auto.0)
+    omega (arith, (start l).requires, q.line, q.field, l.refused_at-line.ensures.1, l.refused_at-line.auto.out, b.ensures.ends, b.auto.out)
 
 returns : tie.Need-returns
 returns c =
@@ -64,18 +64,12 @@ returns c =
     let l = line f in
     let s = start l in
     let a = s.args.answer in
-    let three = next (next l.refused-at.ensures.0 f.behind-comma.ensures) e.bytes-at.ensures in
+    let three = next (next l.refused_at-line.ensures.0 f.behind_comma-field.ensures) e.bytes_at.ensures in
     let text = pieces a.refusal a.line a.field in
-    let whole = subst (λ (t : List ℕ). Written 0 t s.args.out.now e.bytes-at.new.0 e.bytes-at.result) text three in
-    (whole, omega (arith, (both-short l).field, l.refused-at.ensures.1, f.behind-comma.ensures.ends, e.bytes-at.ensures.ends))
+    let whole = subst (λ (t : List ℕ). Written 0 t s.args.out.now e.bytes_at.new.out e.bytes_at.result) text three in
+    (whole, omega (arith, (both-short l).field, l.refused_at-line.ensures.1, f.behind_comma-field.ensures.ends, e.bytes_at.ensures.ends))
 
 pub refusal_text_spec : {M : Type 1} → statement M
 refusal_text_spec =
     tie.close
-    (tie.spec
-    (λ c κs. search rules)
-    behind-comma-requires
-    (λ c. search rules)
-    bytes-at-requires
-    (λ c. search rules)
-    returns)
+    (tie.spec (λ c. search rules) behind-comma-requires bytes-at-requires (λ c. search rules) returns)

@@ -6,11 +6,11 @@ use Rattle.sheet.specs.Quantities.{sheet_most}
 use Rattle.reader.proofs.whole.opening.Statement.{statement}
 use Rattle.reader.proofs.whole.opening.Tie as tie
 
-returns : tie.Need-returns
-returns c = rw (lt-ltb sheet_most c.before.before.args.n c.before.if1.true) c.refused.ensures
+returns : tie.Need-returns-then-n-gt-SHEET_MOST
+returns c = rw (lt-ltb sheet_most c.args.n c.if-n-gt-SHEET_MOST.true) c.refused.ensures
 
-returns-2 : tie.Need-returns-2
-returns-2 c = rw (le-ltb sheet_most c.before.args.n c.if1.false) refl
+returns-2 : tie.Need-returns
+returns-2 c = rw (le-ltb sheet_most c.args.n c.if-n-gt-SHEET_MOST.false) refl
 
 pub opening_spec : {M : Type 1} → statement M
 opening_spec = tie.close (tie.spec (λ c κs. search rules) returns returns-2)

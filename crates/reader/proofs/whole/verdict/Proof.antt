@@ -54,59 +54,59 @@ by-reading : (p : Place) (x : Sheet) (t : Bool) → within gas_total (gas_of x) 
     → all_read x.readings x.sections.count.0 x.stages.count.0 ≡ t → whole_as p x ≡ cond t p (refused_at Missing 0)
 by-reading p x t e f = rw (e, f)
 
-returns : tie.Need-returns
+returns : tie.Need-returns-then-p-ne0
 returns c =
-    let a = c.before.before.args in
-    sym (passed a.n a.p a.sheet (is-bad a.p c.if1.true))
+    let a = c.args in
+    sym (passed a.n a.p a.sheet (is-bad a.p c.if-p-ne0.true))
 
-returns-2 : tie.Need-returns-2
+returns-2 : tie.Need-returns-then-p-n
 returns-2 c =
     let d = c.before.before.before in
-    let a = d.before.before.args in
-    c.refused.ensures ∙ sym (more-below a.n a.p a.sheet (is-good a.p d.if1.false) c.before.if2.true)
+    let a = d.args in
+    c.refused.ensures ∙ sym (more-below a.n a.p a.sheet (is-good a.p d.if-p-ne0.false) c.if-p-n.true)
 
 -- the start, from where all bytes were read, and this place, from where the gas was summed
-abbrev start : tie.Else2 → tie.Start
+abbrev start : tie.Else-p-n → tie.Start
 start c = c.before.before.before.before
 
-abbrev read_up : tie.After-total-gas → tie.Else2
+abbrev read_up : tie.After-total_gas → tie.Else-p-n
 read_up c = c.before.before.before
 
 -- where the gas was found within its limits, from where the walls were looked at
-abbrev gas-good : tie.After-all-read → tie.Else3
+abbrev gas-good : tie.After-all_read → tie.Else-t-ne0
 gas-good c = c.before.before.before.before
 
 -- all bytes were read
-all-read-up : (c : tie.Else2) → let a = (start c).args in verdict_as a.n a.p a.sheet ≡ whole_as a.p a.sheet
+all-read-up : (c : tie.Else-p-n) → let a = (start c).args in verdict_as a.n a.p a.sheet ≡ whole_as a.p a.sheet
 all-read-up c =
     let d = c.before.before in
     let a = (start c).args in
-    all-passed a.n a.p a.sheet (is-good a.p d.if1.false) c.if2.false
+    all-passed a.n a.p a.sheet (is-good a.p d.if-p-ne0.false) c.if-p-n.false
 
-returns-3 : tie.Need-returns-3
+returns-3 : tie.Need-returns-then-t-ne0
 returns-3 c =
     let d = c.before.before.before in
     let g = d.before in
     let a = (start (read_up g)).args in
-    let w = summed g.total-gas.ensures (faulty _ _ (fault-within _ _ _ d.checked.ensures) c.before.if3.true) in
-    c.refused2.ensures ∙ sym (all-read-up (read_up g) ∙ too_much a.p a.sheet w)
+    let w = summed g.total_gas.ensures (faulty _ _ (fault-within _ _ _ d.checked-t.ensures) c.if-t-ne0.true) in
+    c.refused-then-t-ne0.ensures ∙ sym (all-read-up (read_up g) ∙ too_much a.p a.sheet w)
 
 -- the gas is within its limits, and each wall has been looked at
-by-walls : (r : tie.After-all-read) (t : Bool) → r.all_read.result ≡ t
+by-walls : (r : tie.After-all_read) (t : Bool) → r.all_read.result ≡ t
     → let a = (start (read_up (gas-good r).before.before.before)).args in
     cond t a.p (refused_at Missing 0) ≡ verdict_as a.n a.p a.sheet
 by-walls r t e =
     let d = (gas-good r).before.before in
     let g = d.before in
     let a = (start (read_up g)).args in
-    let w = summed g.total-gas.ensures (clean _ _ (fault-within _ _ _ d.checked.ensures) (gas-good r).if3.false) in
+    let w = summed g.total_gas.ensures (clean _ _ (fault-within _ _ _ d.checked-t.ensures) (gas-good r).if-t-ne0.false) in
     sym (all-read-up (read_up g) ∙ by-reading a.p a.sheet t w (sym r.all_read.ensures ∙ e))
 
-returns-4 : tie.Need-returns-4
-returns-4 c = by-walls c.before true c.if4.true
+returns-4 : tie.Need-returns-then-all_read
+returns-4 c = by-walls c.before true c.if-all_read.true
 
-returns-5 : tie.Need-returns-5
-returns-5 c = c.refused3.ensures ∙ by-walls c.before.before false c.before.if4.false
+returns-5 : tie.Need-returns
+returns-5 c = c.refused-2.ensures ∙ by-walls c.before.before false c.if-all_read.false
 
 pub verdict_spec : {M : Type 1} → statement M
 verdict_spec =
