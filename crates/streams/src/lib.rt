@@ -3,7 +3,8 @@
 
 ghost use Rattle.std.specs.Prelude.{◌≤◌, length};
 
-use libc::STDIN_FILENO;
+use std::io::Read;
+use std::rt::Stdin;
 
 // What came in: so many bytes at the front of the room, and whether a read failed behind them.
 #[derive(Drop)]
@@ -14,20 +15,26 @@ pub struct Input {
 
 // Reads standard input to its end, until the room is full, or until a read fails. A failed read is not the end of the input, and what came
 // before it is no sheet: a program that took it for one would blame its clerk.
-pub fn read_all(room: &mut [u8]) -> Input
+pub fn read_all(mut stdin: Stdin, room: &mut [u8]) -> Input
     ensures { result.length ≤ length room.new }
 {
     let mut length = 0;
     while length < room.len() {
-        let got = libc::read(STDIN_FILENO, &mut room[length..]);
-        let n = io::count(got, &room[length..]);
-        if n == 0 {
-            return Input {
-                length,
-                failed: got < 0,
-            };
+        match stdin.read(&mut room[length..]) {
+            Ok(0) => {
+                return Input {
+                    length,
+                    failed: false,
+                };
+            }
+            Ok(n) => length += n,
+            Err(_) => {
+                return Input {
+                    length,
+                    failed: true,
+                };
+            }
         }
-        length += n;
     }
     Input {
         length,
