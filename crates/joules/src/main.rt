@@ -5,31 +5,35 @@
 
 mod program;
 
-use libc::{STDERR_FILENO, STDOUT_FILENO};
 use program::print;
 use sheet::SHEET_MOST;
+use std::env::{Env, FillError};
+use std::io::Write;
 
 // Room for the longest sheet and one byte more, so that a longer one is seen to be longer.
 const ROOM: usize = SHEET_MOST + 1;
 
-fn main() {
-    if os::arg_count() > 1 {
-        io::write_all(
-            STDERR_FILENO,
+fn main(rt: HostRuntime) {
+    if !matches!(rt.arg(1, &mut []), Err(FillError::NotPresent)) {
+        let _ = rt.stderr().write_all(
             b"usage: joules < SHEET\nreads a sheet on standard input and prints its heats or its refusal; it takes no words and no file names\n",
         );
         return;
     }
     let mut room = [0u8; ROOM];
-    let sheet = streams::read_all(&mut room);
+    let sheet = streams::read_all(rt.stdin(), &mut room);
     if sheet.failed {
-        io::write_all(STDERR_FILENO, b"joules: the sheet could not be read\n");
+        let _ = rt
+            .stderr()
+            .write_all(b"joules: the sheet could not be read\n");
         return;
     }
     let mut text = [0u8; 1024];
     let k = print(&room, sheet.length, &mut text);
-    if io::write_all(STDOUT_FILENO, &text[..k]) {
+    if rt.stdout().write_all(&text[..k]).is_ok() {
         return;
     }
-    io::write_all(STDERR_FILENO, b"joules: the answer could not be written\n");
+    let _ = rt
+        .stderr()
+        .write_all(b"joules: the answer could not be written\n");
 }

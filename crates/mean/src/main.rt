@@ -3,30 +3,34 @@
 // behind its name it reads nothing, and says there how it is used.
 #![tactic(auto)]
 
-use libc::{STDERR_FILENO, STDOUT_FILENO};
 use logger::BYTES_MOST;
+use std::env::{Env, FillError};
+use std::io::Write;
 
 // Room for the most readings and one byte more, so that too many are seen to be too many.
 const ROOM: usize = BYTES_MOST + 1;
 
-fn main() {
-    if os::arg_count() > 1 {
-        io::write_all(
-            STDERR_FILENO,
+fn main(rt: HostRuntime) {
+    if !matches!(rt.arg(1, &mut []), Err(FillError::NotPresent)) {
+        let _ = rt.stderr().write_all(
             b"usage: mean < READINGS\nreads a logger's readings on standard input and prints their mean or refusal; it takes no words and no file names\n",
         );
         return;
     }
     let mut room = [0u8; ROOM];
-    let readings = streams::read_all(&mut room);
+    let readings = streams::read_all(rt.stdin(), &mut room);
     if readings.failed {
-        io::write_all(STDERR_FILENO, b"mean: the readings could not be read\n");
+        let _ = rt
+            .stderr()
+            .write_all(b"mean: the readings could not be read\n");
         return;
     }
     let mut text = [0u8; 64];
     let k = logger::print(&room, readings.length, &mut text);
-    if io::write_all(STDOUT_FILENO, &text[..k]) {
+    if rt.stdout().write_all(&text[..k]).is_ok() {
         return;
     }
-    io::write_all(STDERR_FILENO, b"mean: the answer could not be written\n");
+    let _ = rt
+        .stderr()
+        .write_all(b"mean: the answer could not be written\n");
 }
