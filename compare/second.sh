@@ -14,7 +14,8 @@ else
         -e 's/^target datalayout = .*/target datalayout = "e-m:e-p270:32:32-p271:32:32-p272:64:64-i64:64-i128:128-f80:128-n8:16:32:64-S128"/' \
         -e 's/^target triple = .*/target triple = "x86_64-unknown-linux-gnu"/' \
         -e '/^attributes/ { s/"target-cpu"="[^"]*"/"target-cpu"="x86-64"/; s/"(target-features|frame-pointer)"="[^"]*"//g }'
-    "$kit/on/$(uname -m)/toolchain/bin/clang" --target=x86_64-linux-gnu -O3 -c -x ir "$built/second.ll" -o "$built/second.o"
+    tools/needs clang
+    clang --target=x86_64-linux-gnu -O3 -c -x ir "$built/second.ll" -o "$built/second.o"
     # What is missing is the compiler's own library for x86-64. Only a panic would call it, and there is none.
     second=("$built/second.o")
     for name in $(nm -u "$built/second.o" | awk '$2 ~ /4core/ { print $2 }'); do second+=("-Wl,--defsym=$name=abort"); done

@@ -2,7 +2,7 @@
  *
  * From the bytes of a sheet to the bytes of its report, or to a refusal; and by itself, at the end, from a logger's bytes to their mean. The rules of the sheet, the report's lines and the refusals are
  * those of document 01, as document 02 has changed them since; docs/RULES.md has them whole. The library is made for x86-64 Linux, by
- * `rt staticlib hallviska`; `tools/install` puts it, and this header, where compilers look. hallviska_words.h has words for all numbers here.
+ * `rt lib` in crates/hallviska; `tools/install` puts it, and this header, where compilers look. hallviska_words.h has words for all numbers here.
  */
 #ifndef HALLVISKA_H
 #define HALLVISKA_H

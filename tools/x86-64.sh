@@ -7,13 +7,12 @@ if [ "$(uname -m)" = x86_64 ]; then
     compiler=gcc
     runner=()
 else
-    tools/needs rt
+    tools/needs emulator
     compiler=x86_64-linux-gnu-gcc
     root=/usr/x86_64-linux-gnu
-    kit=${RATTLE_HOME:-$(dirname "$(dirname "$(readlink -f "$(command -v rt)")")")}
-    # The toolchain brings an emulator. Unless it is told to be a plain processor, the C library copies with instructions that it has to
-    # take byte by byte, and all is ten times as slow.
-    runner=("$kit/on/$(uname -m)/toolchain/bin/qemu-x86_64" -cpu qemu64 -L "$root")
+    # The library is made for x86-64-v2, and this is the plainest such processor: for a later one the C library copies with instructions that
+    # an emulator has to take byte by byte, and all is ten times as slow.
+    runner=(qemu-x86_64 -cpu Nehalem -L "$root")
 fi
 
 # The inline ones call those that are declared, so that a name may stand there twice.
