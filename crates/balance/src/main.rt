@@ -12,8 +12,10 @@ use std::io::Write;
 const ROOM: usize = SHEET_MOST + 1;
 
 fn main(rt: HostRuntime) {
+    let mut stderr = rt.stderr();
+    // a word of any length is one: nothing of it is asked for but whether it is there
     if !matches!(rt.arg(1, &mut []), Err(FillError::NotPresent)) {
-        let _ = rt.stderr().write_all(
+        let _ = stderr.write_all(
             b"usage: balance < SHEET\nreads a sheet on standard input and prints its report or its refusal; it takes no words and no file names\n",
         );
         return;
@@ -21,9 +23,7 @@ fn main(rt: HostRuntime) {
     let mut room = [0u8; ROOM];
     let sheet = streams::read_all(rt.stdin(), &mut room);
     if sheet.failed {
-        let _ = rt
-            .stderr()
-            .write_all(b"balance: the sheet could not be read\n");
+        let _ = stderr.write_all(b"balance: the sheet could not be read\n");
         return;
     }
     let mut text = [0u8; 1024];
@@ -31,7 +31,5 @@ fn main(rt: HostRuntime) {
     if rt.stdout().write_all(&text[..k]).is_ok() {
         return;
     }
-    let _ = rt
-        .stderr()
-        .write_all(b"balance: the answer could not be written\n");
+    let _ = stderr.write_all(b"balance: the answer could not be written\n");
 }

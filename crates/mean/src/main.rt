@@ -11,8 +11,10 @@ use std::io::Write;
 const ROOM: usize = BYTES_MOST + 1;
 
 fn main(rt: HostRuntime) {
+    let mut stderr = rt.stderr();
+    // a word of any length is one: nothing of it is asked for but whether it is there
     if !matches!(rt.arg(1, &mut []), Err(FillError::NotPresent)) {
-        let _ = rt.stderr().write_all(
+        let _ = stderr.write_all(
             b"usage: mean < READINGS\nreads a logger's readings on standard input and prints their mean or refusal; it takes no words and no file names\n",
         );
         return;
@@ -20,9 +22,7 @@ fn main(rt: HostRuntime) {
     let mut room = [0u8; ROOM];
     let readings = streams::read_all(rt.stdin(), &mut room);
     if readings.failed {
-        let _ = rt
-            .stderr()
-            .write_all(b"mean: the readings could not be read\n");
+        let _ = stderr.write_all(b"mean: the readings could not be read\n");
         return;
     }
     let mut text = [0u8; 64];
@@ -30,7 +30,5 @@ fn main(rt: HostRuntime) {
     if rt.stdout().write_all(&text[..k]).is_ok() {
         return;
     }
-    let _ = rt
-        .stderr()
-        .write_all(b"mean: the answer could not be written\n");
+    let _ = stderr.write_all(b"mean: the answer could not be written\n");
 }
