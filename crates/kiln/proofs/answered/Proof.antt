@@ -20,71 +20,71 @@ use Rattle.kiln.proofs.Answering.{answer-good, buffer_good, short-good, answer-b
 use Rattle.kiln.proofs.answered.Statement.{statement}
 use Rattle.kiln.proofs.answered.Tie as tie
 
-judged-requires : tie.Need-judged-requires
+judged-requires : tie.Need-judged-l-requires
 judged-requires c κs = search rules
 
 -- where the sheet has been accepted, where it has been read, and its bytes
-abbrev accepted : tie.After-head → tie.Then1
+abbrev accepted : tie.After-head-1 → tie.Then-p-eq0
 accepted c = c.before.before
 
-abbrev J : tie.After-head → tie.After-judged
+abbrev J : tie.After-head-1 → tie.After-judged-l
 J c = (accepted c).before.before.before
 
-abbrev bytes : tie.After-judged → List ℕ
-bytes c = c.before.before.before.args.sheet.now
+abbrev bytes : tie.After-judged-l → List ℕ
+bytes c = c.args.sheet.now
 
 -- where the figures have been found, from behind the writing of the report
-abbrev figured : tie.After-reported → tie.After-figures
+abbrev figured : tie.After-reported → tie.After-figures-figures
 figured c = c.before.before.before
 
 -- what was accepted
-abbrev firing : (c : tie.After-head) → Firm (bytes (J c)) (J c).judged.result.sheet
-firing c = let j = (J c).judged in firm-judged _ j.result j.ensures (is-good j.result.place (accepted c).if1.true)
+abbrev firing : (c : tie.After-head-1) → Firm (bytes (J c)) (J c).judged-l.result.sheet
+firing c = let j = (J c).judged-l in firm-judged _ j.result j.ensures (is-good j.result.place (accepted c).if-p-eq0.true)
 
 -- what was refused
-abbrev refusal : (c : tie.Else1) →
+abbrev refusal : (c : tie.Else-p-eq0) →
     let j = c.before.before.before in
-    Denied (bytes j) j.judged.result.place.number j.judged.result.place.line j.judged.result.place.field
+    Denied (bytes j) j.judged-l.result.place.number j.judged-l.result.place.line j.judged-l.result.place.field
 refusal c =
-    let j = c.before.before.before.judged in
-    denied-judged _ j.result j.ensures (is-bad j.result.place c.if1.false)
+    let j = c.judged-l in
+    denied-judged _ j.result j.ensures (is-bad j.result.place c.if-p-eq0.false)
 
 kept : {s : List ℕ} {x : Sheet} (a : Firm s x) → Kept x (firing_of a.sheet)
 kept a = record { shows = a.shows; rules = firm_lawful a }
 
-balance-requires : tie.Need-balance-requires
+balance-requires : tie.Need-balance-heats-requires
 balance-requires c κs = (firing_of (firing c).sheet, kept (firing c))
 
 -- its number, product and heats
-found : (c : tie.After-balance) →
-    let head = (J c.before).judged.result.sheet.head in
-    Found (firing_of (firing c.before).sheet) head.firing.0 head.product.0 c.balance.result
+found : (c : tie.After-balance-heats) →
+    let head = (J c.before).judged-l.result.sheet.head in
+    Found (firing_of (firing c.before).sheet) head.firing.0 head.product.0 c.balance-heats.result
 found c =
     let k = kept (firing c.before) in
-    record { is_number = sym (field k (λ f. f.number)); is-product = sym (field k (λ f. f.product)); balanced = c.balance.ensures _ k; rules = k.rules }
+    record { is_number = sym (field k (λ f. f.number)); is-product = sym (field k (λ f. f.product)); balanced = c.balance-heats.ensures _ k; rules = k.rules }
 
-figures-requires : tie.Need-figures-requires
-figures-requires c κs = (firing_of (firing c.before).sheet, found c)
+figures-requires : tie.Need-figures-figures-requires
+figures-requires c κs = (firing_of (firing c.before.before.before).sheet, found c.before.before)
 
 reported-requires : tie.Need-reported-requires
 reported-requires c κs =
-    let f = c.before.before.figures in
-    each_fits f.result f.type-inv.0 f.type-inv.1.1
+    let f = c.figures-figures in
+    each_fits f.result f.type_inv.0 f.type_inv.1.1
 
-same_length : tie.Need-same-length
+same_length : tie.Need-shape_of-room-then-p-eq0
 same_length c = search rules
 
-returns : tie.Need-returns
+returns : tie.Need-returns-then-p-eq0
 unfolding report
 returns c =
-    let w = c.before.before.reported.ensures in
+    let w = c.reported.ensures in
     let d = figured c.before.before in
-    let j = J d.before.before in
+    let j = J d.before.before.before.before in
     let s = bytes j in
-    let room = j.before.before.before.args.room.now in
-    let a = firing d.before.before in
+    let room = j.args.room.now in
+    let a = firing d.before.before.before.before in
     let f = firing_of a.sheet in
-    let text : lines_text (keys shuttle) d.figures.result ≡ report f = ap (lines_text (keys shuttle)) (d.figures.ensures f (found d.before)) in
+    let text : lines_text (keys shuttle) d.figures-figures.result ≡ report f = ap (lines_text (keys shuttle)) (d.figures-figures.ensures f (found d.before.before.before)) in
     let answer = w.0 ∙ ap (λ (t : List ℕ). fitted t (length room)) text ∙ answer-good s a.good (length room) in
     let buffer = w.1.0 ∙ ap (λ (t : List ℕ). placed t room) text ∙ buffer_good s a.good room in
     (answer, (buffer, short-good s a.good (rw text at w.1.1)))
@@ -92,13 +92,13 @@ returns c =
 refused-requires : tie.Need-refused-requires
 refused-requires c κs = let small = denied-small (refusal c) in (omega (arith, small.number), omega (arith, small.line), omega (arith, small.field))
 
-returns-2 : tie.Need-returns-2
+returns-2 : tie.Need-returns
 returns-2 c =
     let d = refusal c.before in
     let j = c.before.before.before.before in
     let s = bytes j in
-    let room = j.before.before.before.args.room.now in
-    let why = ap₂ (λ (n i : ℕ). refused_as n j.judged.result.place.line i) d.numbers d.fields in
+    let room = j.args.room.now in
+    let why = ap₂ (λ (n i : ℕ). refused_as n j.judged-l.result.place.line i) d.numbers d.fields in
     (c.refused.ensures ∙ why ∙ answer-bad s d.is (length room), (buffer_bad s d.is room, short-bad s d.is))
 
 pub answered_spec : {M : Type 1} → statement M

@@ -13,31 +13,31 @@ use Rattle.kiln.proofs.Telling.{report-told, refusal-told}
 use Rattle.kiln.proofs.program.print.Statement.{statement}
 use Rattle.kiln.proofs.program.print.Tie as tie
 
-abbrev start : tie.After-answered → tie.Start
-start c = c.before.before.before.before
+abbrev start : tie.After-answered-a → tie.Start
+start c = c.before.before.before
 
-size : (c : tie.After-answered) → report_most ≤ length (start c).args.out.now
+size : (c : tie.After-answered-a) → report_most ≤ length (start c).args.out.now
 size c = omega arith
 
-returns : tie.Need-returns
+returns : tie.Need-returns-then-a-eq0
 returns c =
     let read = c.before.before in
-    let r = read.answered in
+    let r = read.answered-a in
     let told = report-told _ _ _ r.result r.ensures.1.1 (size read) r.ensures.0 r.ensures.1.0 (omega arith) in
-    (told.0, omega (arith, told.1, size read, r.auto.1.0))
+    (told.0, omega (arith, told.1, size read, r.auto.room))
 
-returns-2 : tie.Need-returns-2
+returns-2 : tie.Need-returns
 returns-2 c =
     let read = c.before.before.before.before in
-    let r = read.answered in
+    let r = read.answered-a in
     let told = refusal-told _ _ _ r.result r.ensures.1.1 (size read) r.ensures.0 r.ensures.1.0 (omega arith) in
-    let w = c.refusal-text in
+    let w = c.refusal_text in
     let refusal = refused_text r.result.refusal r.result.line r.result.field in
-    let over = subst (λ (old : List ℕ). Written 0 refusal old w.new.0 w.result) told.1 w.ensures.0 in
-    let text = subst (λ (t : List ℕ). Written 0 t (start read).args.out.now w.new.0 w.result) told.0 over in
-    (text, omega (arith, w.ensures.1, size read, w.auto.0, ap length told.1))
+    let over = subst (λ (old : List ℕ). Written 0 refusal old w.new.out w.result) told.1 w.ensures.0 in
+    let text = subst (λ (t : List ℕ). Written 0 t (start read).args.out.now w.new.out w.result) told.0 over in
+    (text, omega (arith, w.ensures.1, size read, w.auto.out, ap length told.1))
 
 pub print_spec : {M : Type 1} → statement M
 print_spec =
     tie.close
-    (tie.spec (λ c. sym (length-take-le _ _ c.before.before.requires.1)) (λ c κs. search rules) returns (λ c κs. search rules) returns-2)
+    (tie.spec (λ c. sym (length-take-le _ _ c.requires.1)) (λ c κs. search rules) returns (λ c κs. search rules) returns-2)
