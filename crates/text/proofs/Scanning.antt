@@ -1,7 +1,7 @@
 -- What finding, counting and a beginning say of lists: first one step of each at a place, then what a caller needs.
 -- Assumes nothing.
 use mathlib.Core.Path.{◌≡◌, refl, sym, ap, ◌∙◌}
-use mathlib.Core.Bool.{Bool, true, false, cond, ◌&&◌}
+use mathlib.Core.Bool.{Bool, true, false, cond, not, ◌&&◌}
 use mathlib.Core.List.{List, [], ◌∷◌, ◌++◌}
 use Prim.Native.Nat.{ℕ, suc, ◌+◌, ◌-◌, ◌≤◌, ◌<◌}
 use native.Mathlib.Nat.{add-zero}
@@ -9,8 +9,14 @@ use native.Mathlib.Numerals.{add-one}
 use native.Mathlib.Omega.{arith}
 use lib.ListN.{length, get_or, take, drop, drop_of_length-le, length-take, length-drop}
 use lib.Seq.{drop-cons, drop-drop, take_all}
-use lib.Dec.{eqb}
-use borrow.Author.Tests.{eq-eqb, ne_eqb, eqb-true}
+use lib.Dec.{eqb, ltb, leb}
+use borrow.Author.Tests.{eq-eqb, ne_eqb, eqb-true, ltb-false, leb-true, leb-false}
+use Rattle.std.specs.Prelude.{Option, Some, None, min, unwrap_or}
+use Rattle.std.specs.List.{position, position_or_len, count_by}
+use Rattle.std.proofs.lemmas.List.Sums.{prefix_len-le-length}
+use Rattle.std.proofs.lemmas.Bool.Decides.{nat_tests}
+use Rattle.std.proofs.lemmas.List.Recursion.{is_count_by}
+use Rattle.std.specs.Cmp.Lexicographic.{pointwise}
 use Rattle.text.specs.Scanning.{up_to, find, count, begins}
 
 module _ (c : ℕ) (s : List ℕ) (i : ℕ) (h : i < length s) where
@@ -31,19 +37,11 @@ module _ (c : ℕ) (s : List ℕ) (i : ℕ) (h : i < length s) where
   count_miss n = rw (add-one, drop-cons s i 0, ne_eqb (get_or s i 0) c n)
 
 module _ (c : ℕ) (s : List ℕ) (i : ℕ) (h : length s ≤ i) where
-  pub find_end : find s i c ≡ i
-  unfolding up_to
-  find_end = rw (drop_of_length-le s h) (add-zero i)
-
   pub count_end : count (drop i s) c ≡ 0
   unfolding count
   count_end = rw (drop_of_length-le s h)
 
 module _ (key s : List ℕ) (i : ℕ) (h : i < length key) where
-  pub begins-short : length s ≤ i → begins (drop i key) (drop i s) ≡ false
-  unfolding begins
-  begins-short l = rw (drop-cons key i 0, drop_of_length-le s l)
-
   pub begins-other : i < length s → (get_or s i 0 ≡ get_or key i 0 → ⊥) → begins (drop i key) (drop i s) ≡ false
   unfolding begins
   begins-other l n = rw (drop-cons key i 0, drop-cons s i 0, ne_eqb (get_or s i 0) (get_or key i 0) n)
@@ -149,3 +147,51 @@ pub key-begins : (key rest : List ℕ) → begins key (key ++ rest) ≡ true
 unfolding begins
 key-begins [] rest = refl
 key-begins (k ∷ key) rest = rw (eq-eqb k k refl) (key-begins key rest)
+
+-- The three in the library's words.
+pub up_to_length : (c : ℕ) (l : List ℕ) → length (up_to c l) ≡ position_or_len (λ x. eqb x c) l
+unfolding up_to
+up_to_length c [] = refl
+up_to_length c (b ∷ l) = here (eqb b c) (up_to_length c l)
+  where
+    here : (t : Bool) → length (up_to c l) ≡ position_or_len (λ x. eqb x c) l
+        → length (cond t [] (b ∷ up_to c l)) ≡ cond (not t) (1 + position_or_len (λ x. eqb x c) l) 0
+    here true q = refl
+    here false q = omega arith
+
+module _ (s : List ℕ) (at c m : ℕ) (h : m ≡ min at (length s)) where
+  -- the part that is searched
+  abbrev rest : List ℕ
+  rest = take (length s - m) (drop m s)
+
+  rest_is : rest ≡ drop at s
+  rest_is = take_all (length s - m) (drop m s) (omega (arith, length-drop m s)) ∙ here (leb at (length s)) refl
+    where
+      here : (t : Bool) → leb at (length s) ≡ t → drop m s ≡ drop at s
+      here true e = let q : m ≡ at = omega (arith, leb-true at (length s) e) in rw q
+      here false e =
+          let q = leb-false at (length s) e in
+          rw (drop_of_length-le s {i = m} (omega (arith, q)), drop_of_length-le s {i = at} (omega (arith, q)))
+
+  pub find_by_position : (r : Option ℕ) → r ≡ position (λ x. eqb x c) rest → at + unwrap_or r (length rest) ≡ find s at c
+  find_by_position r e = rw (e, rest_is) (here (ltb p (length (drop at s))) refl)
+    where
+      p : ℕ
+      p = position_or_len (λ x. eqb x c) (drop at s)
+
+      here : (t : Bool) → ltb p (length (drop at s)) ≡ t → at + unwrap_or (cond t (Some p) None) (length (drop at s)) ≡ find s at c
+      here true q = omega (arith, up_to_length c (drop at s))
+      here false q = omega (arith, up_to_length c (drop at s), ltb-false p (length (drop at s)) q, prefix_len-le-length (λ x. not (eqb x c)) (drop at s))
+
+pub count_by_test : (s : List ℕ) (c : ℕ) → count s c ≡ count_by (λ x. eqb x c) s
+unfolding count
+count_by_test s c = is_count_by (λ l. count l c) (λ x. eqb x c) refl (λ x xs. ap (λ n. cond (eqb x c) n (count xs c)) (omega arith)) s
+
+same_test : (a b : ℕ) → eqb a b ≡ eqb b a
+same_test a b = grind (arith, nat_tests)
+
+pub begins_by_parts : (key s : List ℕ) → begins key s ≡ pointwise eqb key (take (length key) s)
+unfolding begins
+begins_by_parts [] s = refl
+begins_by_parts (k ∷ key) [] = refl
+begins_by_parts (k ∷ key) (b ∷ s) = rw (same_test b k, begins_by_parts key s)

@@ -6,10 +6,3 @@ mod scan;
 
 pub use read::{number, number_within};
 pub use scan::{count, find, starts};
-
-// What a text is as a number in the sheet's form.
-#[derive(Drop)]
-pub enum Num {
-    Value(i64),
-    NotANumber,
-}

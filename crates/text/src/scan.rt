@@ -6,41 +6,22 @@ ghost use Rattle.text.specs.Scanning.{find as findIn, count as countIn, begins};
 pub fn find(s: &[u8], at: usize, c: u8) -> usize
     ensures { result ≡ findIn s.now at c }
 {
-    let mut i = at;
-    while i < s.len() {
-        if s[i] == c {
-            return i;
-        }
-        i += 1;
-    }
-    i
+    let rest = &s[at.min(s.len())..];
+    at + rest.iter().position(|b| *b == c).unwrap_or(rest.len())
 }
 
 // How many commas, or other bytes, a line has.
+#[tactic(auto, using(crate::proofs::Scanning::count_by_test))]
 pub fn count(s: &[u8], c: u8) -> usize
     ensures { result ≡ countIn s.now c }
 {
-    let mut n = 0;
-    let mut i = 0;
-    while i < s.len() {
-        if s[i] == c {
-            n += 1;
-        }
-        i += 1;
-    }
-    n
+    s.iter().filter(|b| **b == c).count()
 }
 
 // Whether a line has the key that is due.
+#[tactic(auto, using(crate::proofs::Scanning::begins_by_parts))]
 pub fn starts(s: &[u8], key: &[u8]) -> bool
     ensures { result ≡ begins key.now s.now }
 {
-    let mut i = 0;
-    while i < key.len() {
-        if s.len() <= i || s[i] != key[i] {
-            return false;
-        }
-        i += 1;
-    }
-    true
+    s.starts_with(key)
 }
