@@ -11,8 +11,7 @@ use lib.Seq.{drop-append_seam}
 use lib.Dec.{eqb, ltb}
 use lib.IntN.{ℤ}
 use borrow.Author.Tests.{eq-eqb, lt-ltb, eqb-true, ltb-true}
-use Rattle.text.specs.declared.Num.{Num}
-use Rattle.text.specs.declared.Num.TheVariants as num
+use Rattle.std.specs.Prelude as std
 use Rattle.text.specs.Bytes.{bytes}
 use Rattle.text.specs.Number.{number_of}
 use Rattle.text.specs.Scanning.{up_to, count, begins}
@@ -37,10 +36,10 @@ record Counted (P : ℕ → Type 0) (k i : ℕ) : Type 0 where
   place : i ≡ k + before
   first : P before
 
-is_number : (p : List ℕ) (z : ℤ) → number_of p ≡ num.Value z → IsNumber p
+is_number : (p : List ℕ) (z : ℤ) → number_of p ≡ std.Some z → IsNumber p
 is_number p z e = record { number = z; small = only-small 9 p z e; its = only-text 9 p z e }
 
-number_is : (p : List ℕ) (n : IsNumber p) → number_of p ≡ num.Value n.number
+number_is : (p : List ℕ) (n : IsNumber p) → number_of p ≡ std.Some n.number
 number_is p n = rw n.its (read_back 9 n.number (omega arith) n.small)
 
 numbers-first : (k : ℕ) (ps : List (List ℕ)) (i : ℕ) → numbers_of k ps ≡ none-at i → Counted (FirstNot IsNumber ps) k i
@@ -55,21 +54,21 @@ numbers-first k (p ∷ ps) i e = here (number_of p) refl e (numbers-first (suc k
         record { before = suc c.before; place = c.place ∙ omega arith; first = (is, c.first) }
     rest z (all_are zs) q is e rec = clash cc
 
-    here : (x : Num) → number_of p ≡ x → on_number x (none-at k) (λ z. on_numbers (numbers_of (suc k) ps) none-at (λ zs. all_are (z ∷ zs))) ≡ none-at i
+    here : (x : std.Option ℤ) → number_of p ≡ x → on_number x (none-at k) (λ z. on_numbers (numbers_of (suc k) ps) none-at (λ zs. all_are (z ∷ zs))) ≡ none-at i
         → (numbers_of (suc k) ps ≡ none-at i → Counted (FirstNot IsNumber ps) (suc k) i) → Counted (FirstNot IsNumber (p ∷ ps)) k i
-    here num.NotANumber q e rec =
+    here std.None q e rec =
         let same : k ≡ i = cc in
         record { before = 0; place = sym same ∙ omega arith; first = λ n. let v = number_is p n in clash cc }
-    here (num.Value z) q e rec = rest z (numbers_of (suc k) ps) refl (is_number p z q) e rec
+    here (std.Some z) q e rec = rest z (numbers_of (suc k) ps) refl (is_number p z q) e rec
 
 first-numbers : (k : ℕ) (ps : List (List ℕ)) (before : ℕ) → FirstNot IsNumber ps before → numbers_of k ps ≡ none-at (k + before)
 unfolding numbers_of
 first-numbers k [] before f = absurd f
 first-numbers k (p ∷ ps) zero f = here (number_of p) refl
   where
-    here : (x : Num) → number_of p ≡ x → on_number x (none-at k) (λ z. on_numbers (numbers_of (suc k) ps) none-at (λ zs. all_are (z ∷ zs))) ≡ none-at (k + 0)
-    here num.NotANumber q = ap none-at (omega arith)
-    here (num.Value z) q = absurd (f (is_number p z q))
+    here : (x : std.Option ℤ) → number_of p ≡ x → on_number x (none-at k) (λ z. on_numbers (numbers_of (suc k) ps) none-at (λ zs. all_are (z ∷ zs))) ≡ none-at (k + 0)
+    here std.None q = ap none-at (omega arith)
+    here (std.Some z) q = absurd (f (is_number p z q))
 first-numbers k (p ∷ ps) (suc before) f =
     let e : suc k + before ≡ k + suc before = omega arith in
     rw (number_is p f.0, first-numbers (suc k) ps before f.1) (ap none-at e)

@@ -10,8 +10,7 @@ use lib.Dec.{eqb}
 use lib.IntN.{ℤ, pos, negsuc, nat_abs}
 use lib.Signed.{le_z}
 use borrow.Author.Tests.{eq-eqb, ne_eqb, eqb-true, leb-true}
-use Rattle.text.specs.declared.Num.{Num}
-use Rattle.text.specs.declared.Num.TheVariants as num
+use Rattle.std.specs.Prelude as std
 use Rattle.text.specs.Decimal.{digits, decimal}
 use Rattle.text.specs.Number.{number_of}
 use Rattle.text.specs.Scanning.{count}
@@ -147,11 +146,11 @@ unfolding numbers_of
 numbers_are i [] zs e = let w : zs ≡ [] = cc in rw w
 numbers_are i (p ∷ ps) zs e = here (number_of p) refl (numbers_of (suc i) ps) (numbers_are (suc i) ps) e
   where
-    here : (n : Num) → number_of p ≡ n → (ns : Numbers) → ((r : List ℤ) → ns ≡ all_are r → ps ≡ map decimal r) →
+    here : (n : std.Option ℤ) → number_of p ≡ n → (ns : Numbers) → ((r : List ℤ) → ns ≡ all_are r → ps ≡ map decimal r) →
         on_number n (none-at i) (λ z. on_numbers ns none-at (λ r. all_are (z ∷ r))) ≡ all_are zs → p ∷ ps ≡ map decimal zs
-    here num.NotANumber q ns ih e = clash cc
-    here (num.Value z) q (none-at j) ih e = clash cc
-    here (num.Value z) q (all_are r) ih e =
+    here std.None q ns ih e = clash cc
+    here (std.Some z) q (none-at j) ih e = clash cc
+    here (std.Some z) q (all_are r) ih e =
         let w : zs ≡ z ∷ r = cc in
         let u = ih r refl in
         let d = only-text 9 p z q in
@@ -163,11 +162,11 @@ unfolding numbers_of
 numbers-small i [] zs e = let w : zs ≡ [] = cc in rw w tt
 numbers-small i (p ∷ ps) zs e = here (number_of p) refl (numbers_of (suc i) ps) (numbers-small (suc i) ps) e
   where
-    here : (n : Num) → number_of p ≡ n → (ns : Numbers) → ((r : List ℤ) → ns ≡ all_are r → Every (λ z. nat_abs z < 1000000000) r) →
+    here : (n : std.Option ℤ) → number_of p ≡ n → (ns : Numbers) → ((r : List ℤ) → ns ≡ all_are r → Every (λ z. nat_abs z < 1000000000) r) →
         on_number n (none-at i) (λ z. on_numbers ns none-at (λ r. all_are (z ∷ r))) ≡ all_are zs → Every (λ z. nat_abs z < 1000000000) zs
-    here num.NotANumber q ns ih e = clash cc
-    here (num.Value z) q (none-at j) ih e = clash cc
-    here (num.Value z) q (all_are r) ih e = let w : zs ≡ z ∷ r = cc in rw w (only-small 9 p z q, ih r refl)
+    here std.None q ns ih e = clash cc
+    here (std.Some z) q (none-at j) ih e = clash cc
+    here (std.Some z) q (all_are r) ih e = let w : zs ≡ z ∷ r = cc in rw w (only-small 9 p z q, ih r refl)
 
 -- RANGES
 pub ranges-length : (fs : List Field) (zs : List ℤ) → in_ranges fs zs ≡ true → length zs ≡ length fs

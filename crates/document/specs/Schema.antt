@@ -2,8 +2,7 @@
 use Rattle.std.specs.Prelude.{ℕ, suc, List, [], ◌∷◌, ◌++◌, map, Bool, true, false, cond, ◌&&◌, length, get_or, drop, ltb, eqb, ℤ, pos, negsuc}
 use Rattle.std.proofs.Math.Option.{Option, none, some}
 use Rattle.std.specs.Int.Signed.{le_z}
-use Rattle.text.specs.declared.Num.{Num}
-use Rattle.text.specs.declared.Num.TheVariants as num
+use Rattle.std.specs.Prelude as std
 use Rattle.text.specs.Bytes.{bytes}
 use Rattle.text.specs.Decimal.{decimal}
 use Rattle.text.specs.Number.{number_of}
@@ -88,9 +87,9 @@ pub data Numbers : Type 0 where
   none-at : ℕ → Numbers
   all_are : List ℤ → Numbers
 
-abbrev pub on_number : {B : Type 0} → Num → B → (ℤ → B) → B
-on_number num.NotANumber b f = b
-on_number (num.Value z) b f = f z
+abbrev pub on_number : {B : Type 0} → std.Option ℤ → B → (ℤ → B) → B
+on_number std.None b f = b
+on_number (std.Some z) b f = f z
 
 abbrev pub on_numbers : {B : Type 0} → Numbers → (ℕ → B) → (List ℤ → B) → B
 on_numbers (none-at i) a f = a i

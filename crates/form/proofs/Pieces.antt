@@ -9,8 +9,7 @@ use lib.ListN.{length, drop}
 use lib.IntN.{ℤ}
 use lib.Dec.{leb, eqb}
 use borrow.Author.Tests.{le-leb, leb-true, leb-false}
-use Rattle.text.specs.declared.Num.{Num}
-use Rattle.text.specs.declared.Num.TheVariants as num
+use Rattle.std.specs.Prelude.{Option, Some, None}
 use Rattle.text.specs.Number.{number_of}
 use Rattle.text.specs.Scanning.{up_to, find, count}
 use Rattle.text.proofs.Scanning.{up_to-clear, find-most, found, not_found}
@@ -70,8 +69,8 @@ unfolding numbers_of
 numbers-many i [] zs e = let q : zs ≡ [] = cc in rw q
 numbers-many i (p ∷ ps) zs e = here (number_of p) (numbers_of (suc i) ps) (numbers-many (suc i) ps) e
   where
-    here : (m : Num) (ns : Numbers) → ((r : List ℤ) → ns ≡ all_are r → length r ≡ length ps)
+    here : (m : Option ℤ) (ns : Numbers) → ((r : List ℤ) → ns ≡ all_are r → length r ≡ length ps)
         → on_number m (none-at i) (λ z. on_numbers ns none-at (λ r. all_are (z ∷ r))) ≡ all_are zs → length zs ≡ suc (length ps)
-    here num.NotANumber ns q e = let z : ◌≡◌ {A = ℕ} 0 1 = cc in absurd (omega arith)
-    here (num.Value z) (none-at j) q e = let z : ◌≡◌ {A = ℕ} 0 1 = cc in absurd (omega arith)
-    here (num.Value z) (all_are r) q e = let w : zs ≡ z ∷ r = cc in rw w (ap suc (q r refl))
+    here None ns q e = let z : ◌≡◌ {A = ℕ} 0 1 = cc in absurd (omega arith)
+    here (Some z) (none-at j) q e = let z : ◌≡◌ {A = ℕ} 0 1 = cc in absurd (omega arith)
+    here (Some z) (all_are r) q e = let w : zs ≡ z ∷ r = cc in rw w (ap suc (q r refl))

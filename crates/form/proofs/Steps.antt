@@ -9,7 +9,7 @@ use lib.ListN.{length, set}
 use lib.Seq.{sets}
 use lib.IntN.{ℤ}
 use borrow.Author.Tests.{eq-eqb, ne_eqb}
-use Rattle.text.specs.declared.Num.TheVariants as num
+use Rattle.std.specs.Prelude.{Some, None}
 use Rattle.text.specs.Number.{number_of}
 use Rattle.sheet.specs.declared.Refusal.TheVariants.{WrongCount, NotANumber}
 use Rattle.document.specs.Schema.{refused, Numbers, none-at, all_are, on_numbers, numbers_of}
@@ -34,11 +34,11 @@ module _ (n next i : ℕ) (vals : List ℤ) where
   fields-done (p ∷ ps) z h = absurd (omega arith)
 
   module _ (p : List ℕ) (ps : List (List ℕ)) where
-    pub fields-bad : i + length (p ∷ ps) ≡ n → number_of p ≡ num.NotANumber → fields_of n next i vals (p ∷ ps) ≡ handed 0 (refused (NotANumber (i + 1)))
+    pub fields-bad : i + length (p ∷ ps) ≡ n → number_of p ≡ None → fields_of n next i vals (p ∷ ps) ≡ handed 0 (refused (NotANumber (i + 1)))
     unfolding fields_of numbers_of
     fields-bad h e = rw (eq-eqb _ _ h, e, add-one i)
 
-    pub fields-more : (z : ℤ) → number_of p ≡ num.Value z → fields_of n next i vals (p ∷ ps) ≡ fields_of n next (i + 1) (set vals i z) ps
+    pub fields-more : (z : ℤ) → number_of p ≡ Some z → fields_of n next i vals (p ∷ ps) ≡ fields_of n next (i + 1) (set vals i z) ps
     unfolding fields_of numbers_of
     fields-more z e =
         let q : i + suc (length ps) ≡ i + 1 + length ps = omega arith in

@@ -9,7 +9,6 @@ ghost use Rattle.form.specs.Formed.{zeros, handed, line_at};
 ghost use Rattle.form.specs.Fields.{fields_of};
 
 use sheet::{FIELDS_MOST, Refusal};
-use text::Num;
 
 // What was read where a line is due: its numbers and the place after it, and then the number is 0; or document 01's number of the refusal and
 // the field that it names.
@@ -51,10 +50,10 @@ fn fields(v: &[u8], n: usize, next: usize) -> Formed
     while i < n {
         let e = text::find(v, at, b',');
         match text::number(&v[at..e]) {
-            Num::Value(z) => {
+            Some(z) => {
                 values[i] = z;
             }
-            Num::NotANumber => {
+            None => {
                 return refuse(Refusal::NotANumber(i + 1));
             }
         }

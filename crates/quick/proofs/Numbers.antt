@@ -3,7 +3,7 @@
 use Rattle.std.proofs.Common.{◌≡◌, ℕ, zero, suc, ◌+◌, ◌-◌, ◌*◌, ◌^◌, ◌<◌, ◌≤◌, Bool, true, false, ◌&&◌, eqb, ltb, List, [], ◌∷◌, ◌++◌, length, get_or, drop, set, ℤ, pos, negsuc, neg_ℤ, sym, refl, ap, ◌∙◌, add-zero, add-one, arith, lit<, length-append, get_or-drop, drop-cons, get_or-take, ltb-true, le-ltb, lt-ltb, eq-eqb, ne_eqb, eqb-true, le-leb}
 use native.Mathlib.Nat.{pow-le-pow_right}
 use lib.Signed.{lt_z}
-use Rattle.text.specs.declared.Num.TheVariants.{Value, NotANumber}
+use Rattle.std.specs.Prelude.{Some, None}
 use Rattle.text.specs.Bytes.{bytes}
 use Rattle.text.specs.Decimal.{decimal}
 use Rattle.text.specs.Number.{digits_read, leading_zero, unsigned, number_within, number_of}
@@ -18,7 +18,7 @@ use Rattle.form.proofs.Steps.{fields-done, fields-more}
 use Rattle.quick.specs.Number.{Number}
 
 -- a number has no byte below its sign
-number-clear : (c : ℕ) → c < 45 → (l : List ℕ) (z : ℤ) → number_of l ≡ Value z → count l c ≡ 0
+number-clear : (c : ℕ) → c < 45 → (l : List ℕ) (z : ℤ) → number_of l ≡ Some z → count l c ≡ 0
 number-clear c h l z e = rw (only-text 9 l z e) (decimal-clear c h z)
 
 -- how a number without a sign begins
@@ -29,14 +29,14 @@ no_zero l z = here (ltb 1 (length l)) refl
     here true e = ne_eqb (get_or l 0 0) 48 (z (ltb-true 1 (length l) e))
     here false e = refl
 
-no_sign : (l : List ℕ) (z : ℤ) → digits_read 0 l ≡ Value z → begins (bytes "-") l ≡ false
+no_sign : (l : List ℕ) (z : ℤ) → digits_read 0 l ≡ Some z → begins (bytes "-") l ≡ false
 unfolding digits_read begins
 no_sign [] z e = refl
 no_sign (b ∷ l) z e = here (eqb b 45) refl
   where
     here : (t : Bool) → eqb b 45 ≡ t → t && true ≡ false
     here true q =
-        let r : NotANumber ≡ Value z = rw (eqb-true b 45 q) at e in
+        let r : None ≡ Some z = rw (eqb-true b 45 q) at e in
         let w : ◌≡◌ {A = ℕ} 0 1 = cc in
         absurd (omega arith)
     here false q = refl
@@ -54,7 +54,7 @@ module _ (s : List ℕ) (c i : ℕ) (h : i < length s) (m : ℕ) where
         sym (rw (add-one, drop-cons s i 0, ne_eqb b c other, le-ltb b 48 (omega arith), le-ltb 57 b (omega arith), is)),
       )
 
-  digit_end : get_or s i 0 ≡ c → digits_read m (up_to c (drop i s)) ≡ Value (pos m)
+  digit_end : get_or s i 0 ≡ c → digits_read m (up_to c (drop i s)) ≡ Some (pos m)
   unfolding digits_read up_to
   digit_end e = rw (drop-cons s i 0, eq-eqb (get_or s i 0) c e)
 
@@ -69,7 +69,7 @@ unfolding number_within unsigned
 digits_seen s at c k m p h e q z f d =
     let l = up_to c (drop at s) in
     let g = find_hit c s k h e in
-    let r : digits_read 0 l ≡ Value (pos m) = sym d ∙ digit_end s c k h m e in
+    let r : digits_read 0 l ≡ Some (pos m) = sym d ∙ digit_end s c k h m e in
     let b : get_or l 0 0 ≡ get_or s at 0 =
     ap (λ (x : List ℕ). get_or x 0 0) (sym (up_to_front c (drop at s))) ∙ get_or-take (length l) (drop at s) 0 0 (omega arith)
     ∙ get_or-drop at s 0 0 ∙ rw (add-zero at) in
@@ -80,7 +80,7 @@ digits_seen s at c k m p h e q z f d =
     }
 
 -- a number above zero, with a sign before it, is as much below zero
-below : (l : List ℕ) (z : ℤ) → lt_z z (pos 1) ≡ false → number_of l ≡ Value z → number_of (45 ∷ l) ≡ Value (neg_ℤ z)
+below : (l : List ℕ) (z : ℤ) → lt_z z (pos 1) ≡ false → number_of l ≡ Some z → number_of (45 ∷ l) ≡ Some (neg_ℤ z)
 unfolding decimal
 below l (pos zero) h e = let w : ◌≡◌ {A = ℕ} 0 1 = cc in absurd (omega arith)
 below l (negsuc n) h e = let w : ◌≡◌ {A = ℕ} 0 1 = cc in absurd (omega arith)

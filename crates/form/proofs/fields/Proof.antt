@@ -66,12 +66,12 @@ loop-holds c =
 part-number-end : tie.Need-slice_bounds-number-end invariant-loop decreases-loop
 part-number-end c = omega (arith, step c)
 
-returns-2 : tie.Need-returns-in-NotANumber invariant-loop decreases-loop
+returns-2 : tie.Need-returns-in-None invariant-loop decreases-loop
 returns-2 c =
     let p = c.before.before in
     let s = (step p.before.before).first in
     let l = (turn p).loop-i in
-    c.refuse-in-NotANumber.ensures ∙ sym (fields-bad _ _ _ _ _ _ (rw s at l.invariant.1) (sym (text p) ∙ c.in-NotANumber.is)) ∙ rw s at l.invariant.0
+    c.refuse-in-None.ensures ∙ sym (fields-bad _ _ _ _ _ _ (rw s at l.invariant.1) (sym (text p) ∙ c.in-None.is)) ∙ rw s at l.invariant.0
 
 add_at : tie.Need-overflow_add-at invariant-loop decreases-loop
 add_at c = let read = c.before.before.before in omega (arith, step read)
@@ -81,10 +81,10 @@ loop-again c =
     let p = c.before in
     let s = (step p.before.before).first in
     let l = (turn p).loop-i in
-    let z = c.in-Value.z in
+    let z = c.in-Some.z in
     let fits : SFits w64 z = search rules in
     let b = to_z-of_z w64 z fits in
-    rw b (sym (fields-more _ _ _ _ _ _ z (sym (text p) ∙ c.in-Value.is)) ∙ rw s at l.invariant.0, omega (arith, ap length s))
+    rw b (sym (fields-more _ _ _ _ _ _ z (sym (text p) ∙ c.in-Some.is)) ∙ rw s at l.invariant.0, omega (arith, ap length s))
 
 returns-3 : tie.Need-returns invariant-loop decreases-loop
 returns-3 c =
