@@ -3,10 +3,11 @@ use mathlib.Core.Path.{◌≡◌, refl, sym, ap, ◌∙◌}
 use mathlib.Core.List.{List, [], ◌∷◌, ◌++◌, append_assoc, append-nil}
 use Prim.Native.Nat.{ℕ, zero, suc, ◌+◌, ◌-◌, ◌≤◌, ◌<◌}
 use native.Mathlib.Nat.{add-zero, zero-add, suc-add}
-use native.Mathlib.Numerals.{add-one}
 use native.Mathlib.Omega.{arith}
 use lib.ListN.{length, take, drop, set, length-append, length-take, length-drop, take-append-drop, drop_of_length-le}
 use lib.Seq.{take_all, take_at, drop_at, set_split, drop-drop, drop-nil, drop-append_seam, take-append_seam, length-take-le}
+use borrow.Rule.Slice.PartMut.{put_mid}
+use Rattle.std.proofs.lemmas.List.{take-set-le}
 use Rattle.pen.specs.Writing.{over, Written}
 
 pub length_over : (at : ℕ) (text old : List ℕ) → at + length text ≤ length old → length (over at text old) ≡ length old
@@ -65,19 +66,21 @@ next {at} {end} {a = a} {b} {old} w v = record {
   holds = v.holds ∙ rw (w.ends, w.holds) (over-over at a b old);
 }
 
--- one byte written by an assignment
-pub one_byte : (at b : ℕ) (old : List ℕ) → at < length old → Written at (b ∷ []) old (set old at b) (at + 1)
+-- a part that became the text
+pub copied : {at k : ℕ} {text old part : List ℕ} → part ≡ text → k ≡ length text → Written at text old (put_mid at k old part) (at + length text)
 unfolding over
-one_byte at b old h = record { ends = refl; holds = set_split old at b h ∙ rw (drop-drop, add-one) }
-
-pub over_none : (old : List ℕ) → over 0 [] old ≡ old
-unfolding over
-over_none old = refl
+copied e q = rw (e, q) (record { ends = refl; holds = refl })
 
 -- the last byte of a text may be written before the others
-pub last-first : (at b : ℕ) (a old : List ℕ) → length a ≡ at → at < length old → over 0 a (set old at b) ≡ over 0 (a ++ (b ∷ [])) old
+pub last-first : (at i b : ℕ) (a old : List ℕ) → at + length a ≡ i → i < length old → over at a (set old i b) ≡ over at (a ++ (b ∷ [])) old
 unfolding over
-last-first at b a old e h =
-    let d : drop at (set old at b) ≡ b ∷ drop (suc at) old =
-    rw (set_split old at b h) (drop_at (take at old) (b ∷ drop (suc at) old) at (length-take-le at old (omega arith))) in
-    rw (length-append, append_assoc, e, d, add-one)
+last-first at i b a old e h =
+    let d : drop (length a) (drop at (set old i b)) ≡ b ∷ drop (suc i) old =
+    rw (drop-drop, e, set_split old i b h) (drop_at (take i old) (b ∷ drop (suc i) old) i (length-take-le i old (omega arith))) in
+    let f : at + (length a + 1) ≡ suc i = omega arith in
+    rw (take-set-le at old i b (omega arith), d, length-append, append_assoc, drop-drop, f)
+
+-- no byte is left to write
+pub over_none : (at : ℕ) (old : List ℕ) → over at [] old ≡ old
+unfolding over
+over_none at old = take-append-drop at old

@@ -15,18 +15,14 @@ pub fn width(z: i64) -> usize
 }
 
 // How many digits a number has.
+#[tactic(auto, using(crate::proofs::Digits::counted))]
 fn digit_count(n: u64) -> usize
     ensures { result ≡ length (digits n) }
 {
-    let most = n / 10;
-    let mut k = 1;
-    let mut power = 1;
-    // By products, for the compiler: docs/DECISIONS.md, "Digits are counted by products".
-    while power <= most {
-        power *= 10;
-        k += 1;
+    match n.checked_ilog10() {
+        Some(power) => power as usize + 1,
+        None => 1,
     }
-    k
 }
 
 // Puts a line of the report, `key=z` and LF, into the part that begins at a place, and answers where it ends.
@@ -61,77 +57,29 @@ pub fn number_at(out: &mut [u8], at: usize, z: i64) -> usize
     digits_at(out, at, n)
 }
 
-// Puts digits at a place, and answers where they end.
+// Puts digits at a place, the last of them first, and answers where they end.
 fn digits_at(out: &mut [u8], at: usize, n: u64) -> usize
     requires { at + length (digits n) ≤ length out.old }
     ensures { Written at (digits n) out.old out.new result }
 {
-    at + put_digits(&mut out[at..], n)
-}
-
-// Puts digits at the front, the last of them first, and answers how many there are.
-fn put_digits(out: &mut [u8], n: u64) -> usize
-    requires { length (digits n) ≤ length out.old }
-    ensures { Written 0 (digits n) out.old out.new result }
-{
-    let k = digit_count(n);
+    let end = at + digit_count(n);
     let mut rest = n;
-    let mut i = k;
-    // Two at a time, since each division waits for the one before.
-    while 1 < i {
-        i -= 2;
-        let two = rest % 100;
-        out[i + 1] = (48 + two % 10) as u8;
-        out[i] = (48 + two / 10) as u8;
-        rest /= 100;
+    for i in (at..end).rev() {
+        out[i] = b'0' + (rest % 10) as u8;
+        rest /= 10;
     }
-    if 0 < i {
-        out[0] = (48 + rest % 10) as u8;
-    }
-    k
+    end
 }
 
 // Puts bytes at a place, and answers where they end.
+#[tactic(auto, using(crate::proofs::Writing::copied))]
 pub fn bytes_at(out: &mut [u8], at: usize, src: &[u8]) -> usize
     requires { at + length src.now ≤ length out.old }
     ensures { Written at src.now out.old out.new result }
 {
-    at + put_bytes(&mut out[at..], src)
-}
-
-// Puts eight bytes or fewer at the front, and answers how many there are.
-fn put_few(out: &mut [u8], src: &[u8]) -> usize
-    requires src_in_bounds { length src.now ≤ length out.old }
-    requires src_len_bound { length src.now ≤ 8 }
-    ensures { Written 0 src.now out.old out.new result }
-{
-    let mut put = 0;
-    let mut turn: usize = 0;
-    // So written for the compiler: docs/DECISIONS.md, "A few bytes are put in eight turns".
-    while turn < 8 {
-        if put < src.len() {
-            out[put] = src[put];
-            put += 1;
-        }
-        turn += 1;
-    }
-    put
-}
-
-// Puts bytes at the front, and answers how many there are.
-fn put_bytes(out: &mut [u8], src: &[u8]) -> usize
-    requires { length src.now ≤ length out.old }
-    ensures { Written 0 src.now out.old out.new result }
-{
-    if src.len() <= 8 {
-        return put_few(out, src);
-    }
-    let mut i = 0;
-    while i < src.len() {
-        out[i] = src[i];
-        i += 1;
-    }
-    i
+    let end = at + src.len();
+    out[at..end].copy_from_slice(src);
+    end
 }
 
 // Puts a comma and a number, and answers where they end.
@@ -140,16 +88,17 @@ pub fn behind_comma(out: &mut [u8], at: usize, number: u32) -> usize
     ensures { Written at (behind_comma number) out.old out.new result }
 {
     let behind = bytes_at(out, at, b",");
-    number_at(out, behind, number as i64)
+    number_at(out, behind, i64::from(number))
 }
 
 // Puts `refused=NUMBER,PLACE` at the front, with which every program begins a refusal, and answers how long it is.
+#[tactic(auto, using(crate::proofs::Numbers::texts))]
 pub fn refused_at(out: &mut [u8], number: u32, place: u32) -> usize
     requires { refused_at_most ≤ length out.old }
     ensures written { Written 0 (refused_at number place) out.old out.new result }
     ensures upper_bound { result ≤ refused_at_most }
 {
     let word = bytes_at(out, 0, b"refused=");
-    let behind = number_at(out, word, number as i64);
+    let behind = number_at(out, word, i64::from(number));
     behind_comma(out, behind, place)
 }
