@@ -1,6 +1,6 @@
 -- What the reading of a line's form leaves: the next place, the numbers, or the refusal. Assumes nothing.
 use Prim.Native.Nat.{ℕ, zero, suc, ◌+◌, ◌≤◌, ◌<◌}
-use mathlib.Core.Path.{◌≡◌, refl, sym, ap, ◌∙◌}
+use mathlib.Core.Path.{◌≡◌, refl, sym, ◌∙◌}
 use mathlib.Core.Bool.{true, false}
 use mathlib.Core.List.{List, [], ◌∷◌, ◌++◌}
 use mathlib.Core.Option.{none}
@@ -12,19 +12,21 @@ use lib.IntN.{ℤ, pos}
 use borrow.Author.Tests.{ne_eqb, ltb-true}
 use Rattle.limits.specs.declared.Number.{Number}
 use Rattle.text.specs.Scanning.{up_to}
+use Rattle.std.specs.Prelude.{Result, Ok, Err}
+use Rattle.sheet.specs.declared.Refusal.{Refusal}
+use Rattle.sheet.specs.Refusals.{number}
 use Rattle.sheet.proofs.Refusals.{numbered}
 use Rattle.sheet.specs.Quantities.{fields_most}
 use Rattle.document.specs.Schema.{Row, Judged, refused, values, formed_by}
 use Rattle.document.specs.Reader.{judged}
 use Rattle.form.specs.declared.Formed.{Formed}
-use Rattle.form.specs.Formed.{zeros, handed, line_at}
-use Rattle.form.specs.Fields.{accepted}
+use Rattle.form.specs.Formed.{zeros, handed, values_in, line_at}
 use Rattle.form.proofs.Lines.{keyed-line}
 use Rattle.quick.specs.Key.{standing}
 use Rattle.quick.specs.Row.{RowRead}
 use Rattle.quick.proofs.Keys.{keyed}
 use Rattle.due.specs.declared.Place.{Place}
-use Rattle.due.specs.Place.{good, going_on, Fair, Ready, Meets, After}
+use Rattle.due.specs.Place.{good, going_on, refused_at, Fair, Ready, Meets, After}
 use Rattle.due.specs.Taking.{plain_numbers, from}
 use Rattle.due.specs.Form.{read_form, values_at, FormAfter}
 use Rattle.due.proofs.Places.{not-both, after_weaker}
@@ -58,52 +60,52 @@ module _ (s : List ℕ) (p : Place) (key : List ℕ) (n : ℕ) (r : Ready s p) (
   abbrev text : List ℕ
   text = drop p.at s
 
-  -- the place of a line that is handed out as refused
-  abbrev pub refused_by : Formed → Place
-  refused_by l = record { number = l.number; field = l.field; line = p.line; at = 0 }
+  -- the numbers of the line, whether it is in form or not
+  line-values : (l : Result Formed Refusal) → l ≡ line_at s p.at key n → values_in l ≡ values_at s p key n
+  unfolding values_at
+  line-values l e = rw (yes, e)
 
-  refused-cases : (P : Row → Type 0) (j : Judged) → ¬ ((handed p.at j).number ≡ 0)
-      → Meets s (judged j (λ row. none) p.line text) (refused_by (handed p.at j)) P
-  refused-cases P (refused x) z = refl
-  refused-cases P (values row size) z = absurd (z refl)
+  refused-cases : (P : Row → Type 0) (j : Judged) (x : Refusal) → handed p.at j ≡ Err x → Meets s (judged j (λ row. none) p.line text) (refused_at x p.line) P
+  refused-cases P (refused y) x e = let q : y ≡ x = cc in rw q refl
+  refused-cases P (values row size) x e = cc
 
-  pub form_refused : (l : Formed) (P : Row → Type 0) → l ≡ line_at s p.at key n → ¬ (l.number ≡ 0) → After s p (read_form key n) (refused_by l) P
+  -- one that is handed out as refused
+  pub form_refused : (x : Refusal) → Err x ≡ line_at s p.at key n → FormAfter s p key n (refused_at x p.line) zeros
   unfolding line_at
-  form_refused l P e z = record {
-    reads = λ h. rw e (refused-cases P (formed_by key n text) (λ x. z (ap (λ (y : Formed). y.number) e ∙ x)));
-    passes = λ h. not-both (good p) yes h;
-    fair = λ h. not-both (good (refused_by l)) h (ne_eqb l.number 0 z);
+  form_refused x e = record {
+    after = record {
+      reads = λ h. refused-cases _ (formed_by key n text) x (sym e);
+      passes = λ h. not-both (good p) yes h;
+      fair = λ h. not-both (good (refused_at x p.line)) h (ne_eqb (number x) 0 (λ z. omega (arith, (numbered x).some)));
+    };
+    whole = line-values (Err x) e;
   }
 
   -- one that is handed out with numbers is read, and they are its row's
-  read-cases : (j : Judged) → formed_by key n text ≡ j → (handed p.at j).number ≡ 0
-      → Meets s (judged j (λ row. none) p.line text) (going_on p.line (handed p.at j).next)
-      (λ row. ((handed p.at j).values ≡ sets zeros 0 row.numbers) × (length row.numbers ≡ n))
-      × Fair s (going_on p.line (handed p.at j).next)
-  read-cases (refused x) q e = absurd (omega (arith, e, (numbered x).some))
-  read-cases (values row size) q e =
+  read-cases : (j : Judged) → formed_by key n text ≡ j → (l : Formed) → handed p.at j ≡ Ok l
+      → Meets s (judged j (λ row. none) p.line text) (going_on p.line l.next) (λ row. (l.values ≡ sets zeros 0 row.numbers) × (length row.numbers ≡ n))
+      × Fair s (going_on p.line l.next)
+  read-cases (refused x) q l e = absurd cc
+  read-cases (values row size) q l e =
       let f = in_form key n text row size q in
       let g = r.fair yes in
-      let b : length (up_to 10 text) < length text = ltb-true (length (up_to 10 text)) (length text) f.within in (
+      let b : length (up_to 10 text) < length text = ltb-true (length (up_to 10 text)) (length text) f.within in
+      let is : l ≡ record { next = p.at + size; values = sets zeros 0 row.numbers } = cc in
+      rw is (
         (record { sound = refl; line = add-one p.line; left = sym (drop-drop size p.at s) }, (refl, f.count)),
         record { field = refl; line = omega (arith, f.some, g.line); within = omega (arith, f.long, b, g.within, length-drop p.at s) },
       )
 
-  -- the numbers of the line, whether it is in form or not
-  pub line-values : (l : Formed) → l ≡ line_at s p.at key n → l.values ≡ values_at s p key n
-  unfolding values_at
-  line-values l e = rw (yes, e)
-
-  pub form_read : (l : Formed) → l ≡ line_at s p.at key n → l.number ≡ 0 → FormAfter s p key n (going_on p.line l.next) l.values
+  pub form_read : (l : Formed) → Ok l ≡ line_at s p.at key n → FormAfter s p key n (going_on p.line l.next) l.values
   unfolding line_at
-  form_read l e z =
-      let c = read-cases (formed_by key n text) refl (sym (ap (λ (y : Formed). y.number) e) ∙ z) in
-      record { after = rw e (record { reads = λ x. c.0; passes = λ x. not-both (good p) yes x; fair = λ x. c.1 }); whole = line-values l e }
+  form_read l e =
+      let c = read-cases (formed_by key n text) refl l (sym e) in
+      record { after = record { reads = λ x. c.0; passes = λ x. not-both (good p) yes x; fair = λ x. c.1 }; whole = line-values (Ok l) e }
 
   -- the key stands there, and behind it the quick reader has read the row
   pub row_read : (v w : List ℤ) (next : ℕ) → standing s p.at key ≡ true → v ≡ zeros → RowRead s (p.at + length key) n v w next
       → (next ≡ 0 → ⊥) → FormAfter s p key n (going_on p.line next) w
-  row_read v w next k z a some = form_read (accepted next w) (a.read some ∙ rw z (sym (keyed-line _ _ _ _ (keyed s p.at key k)))) refl
+  row_read v w next k z a some = form_read (record { next = next; values = w }) (a.read some ∙ rw z (sym (keyed-line _ _ _ _ (keyed s p.at key k))))
 
 -- the numbers taken out of the array
 pub due_form : (s : List ℕ) (p : Place) (key : List ℕ) (n : ℕ) (q : Place) (v : List ℤ) (w : List Number) → n ≤ fields_most → plain_numbers w ≡ v

@@ -3,7 +3,7 @@ use Rattle.std.specs.Prelude.{ℕ, ◌≡◌, cond, List, ◌++◌, length, ℤ}
 use Rattle.std.proofs.Math.Option.{none}
 use Rattle.std.proofs.lemmas.List.Edits.{sets}
 use Rattle.text.specs.Bytes.{bytes}
-use Rattle.form.specs.Formed.{zeros, line_at}
+use Rattle.form.specs.Formed.{zeros, values_in, line_at}
 use Rattle.document.specs.Schema.{Line, Row, formed_by}
 use Rattle.document.specs.Reader.{Reader, judged}
 use Rattle.due.specs.declared.Place.{Place}
@@ -20,7 +20,7 @@ form_of l = read_form (l.key ++ bytes "=") (length l.fields)
 
 -- thirteen numbers at a place: those of a line in form, and zeros behind them; zeros where the line is not in form or the place is refused
 unfoldable pub values_at : List ℕ → Place → List ℕ → ℕ → List ℤ
-values_at s p key n = cond (good p) (line_at s p.at key n).values zeros
+values_at s p key n = cond (good p) (values_in (line_at s p.at key n)) zeros
 
 -- the code has read a form: the array has the row's n numbers from its front on, and zeros behind them
 pub record FormAfter (s : List ℕ) (p : Place) (key : List ℕ) (n : ℕ) (q : Place) (v : List ℤ) : Type 0 where

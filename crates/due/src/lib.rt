@@ -56,18 +56,6 @@ pub fn onward(line: usize, at: usize) -> Place
     }
 }
 
-// Lays numbers into an array that is lent.
-fn lay(numbers: [i64; FIELDS_MOST], v: &mut [i64; FIELDS_MOST])
-    requires { length v.old ≡ fields_most }
-    ensures { v.new ≡ numbers }
-{
-    let mut i = 0;
-    while i < FIELDS_MOST {
-        v[i] = numbers[i];
-        i += 1;
-    }
-}
-
 // Reads a line that is not plainly in form, or names its fault and leaves zeros.
 pub fn careful(s: &[u8], p: Place, key: &[u8], n: usize, v: &mut [i64; FIELDS_MOST]) -> Place
     requires n_le_fields_most { n ≤ fields_most }
@@ -79,19 +67,17 @@ pub fn careful(s: &[u8], p: Place, key: &[u8], n: usize, v: &mut [i64; FIELDS_MO
     // The same text and key once more, for the compiler: docs/DECISIONS.md, "A text that is handed on is taken anew".
     let text = &s[..];
     let given = &key[..];
-    let l = form::judged(text, p.at, given, n);
-    let values = l.values;
-    lay(values, v);
-    let line = p.line;
-    if l.number != 0 {
-        return Place {
-            number: l.number,
-            field: l.field,
-            line,
-            at: 0,
-        };
+    match form::judged(text, p.at, given, n) {
+        Ok(l) => {
+            let values = l.values;
+            *v = values;
+            onward(p.line, l.next)
+        }
+        Err(why) => {
+            *v = [0; FIELDS_MOST];
+            refused(why, p.line)
+        }
     }
-    onward(line, l.next)
 }
 
 // Reads the form of the line that is due into an array of zeros, in one pass where it is plain; a refused place passes through.

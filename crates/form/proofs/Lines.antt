@@ -3,15 +3,16 @@
 use mathlib.Core.Path.{◌≡◌, refl, ap, ◌∙◌}
 use mathlib.Core.Bool.{Bool, true, false, cond}
 use mathlib.Core.List.{List, ◌∷◌, ◌++◌, append_assoc}
-use Prim.Native.Nat.{ℕ, suc, ◌+◌, ◌-◌, ◌≤◌, ◌<◌}
+use Prim.Native.Nat.{ℕ, suc, ◌+◌, ◌≤◌, ◌<◌}
 use native.Mathlib.Nat.{zero-add}
 use native.Mathlib.Omega.{arith}
-use lib.ListN.{length, take, drop, length-append, length-drop}
+use lib.ListN.{length, drop, length-append, length-drop}
 use lib.Seq.{sets, drop-drop, drop-append_seam}
 use lib.Dec.{ltb, eqb}
 use borrow.Author.Tests.{lt-ltb, le-ltb, ltb-true, ltb-false}
+use Rattle.std.specs.Prelude.{Err}
 use Rattle.text.specs.Scanning.{up_to, find, count, begins}
-use Rattle.text.proofs.Scanning.{up_to-clear, count-append, found, piece, begins-key, key-begins}
+use Rattle.text.proofs.Scanning.{up_to-clear, count-append, found, begins-key, key-begins}
 use Rattle.sheet.specs.declared.Refusal.TheVariants.{NoLineFeed, WrongKey, WrongCount, NotANumber}
 use Rattle.document.specs.Schema.{refused, values, plain, unless, pieces, Numbers, none-at, all_are, on_numbers, numbers_of, formed_by}
 use Rattle.form.specs.Formed.{zeros, handed, line_at}
@@ -26,7 +27,7 @@ unfolding fields_of
 handed-fields at size n ps = rw (zero-add (length ps)) (here (eqb (length ps) n) (numbers_of 1 ps))
   where
     here : (t : Bool) (ns : Numbers) → handed at (unless t WrongCount (on_numbers ns (λ i. refused (NotANumber i)) (λ zs. values (plain zs) size)))
-        ≡ cond t (on_numbers ns (λ j. handed 0 (refused (NotANumber j))) (λ zs. accepted (at + size) (sets zeros 0 zs))) (handed 0 (refused WrongCount))
+        ≡ cond t (on_numbers ns (λ j. Err (NotANumber j)) (λ zs. accepted (at + size) (sets zeros 0 zs))) (Err WrongCount)
     here true (none-at i) = refl
     here true (all_are zs) = refl
     here false ns = refl
@@ -45,11 +46,11 @@ line-keyed s at key h e =
 
 -- THE LINE by the code's tests
 module _ (s : List ℕ) (at : ℕ) (key : List ℕ) (n : ℕ) where
-  pub endless : length s ≤ find s at 10 → line_at s at key n ≡ handed 0 (refused NoLineFeed)
+  pub endless : length s ≤ find s at 10 → line_at s at key n ≡ Err NoLineFeed
   unfolding line_at formed_by
   endless h = rw (le-ltb (length (up_to 10 (drop at s))) (length (drop at s)) (omega (arith, length-drop at s)))
 
-  pub unkeyed : find s at 10 < length s → begins key (up_to 10 (drop at s)) ≡ false → line_at s at key n ≡ handed 0 (refused WrongKey)
+  pub unkeyed : find s at 10 < length s → begins key (up_to 10 (drop at s)) ≡ false → line_at s at key n ≡ Err WrongKey
   unfolding line_at formed_by
   unkeyed h e = rw (lt-ltb (length (up_to 10 (drop at s))) (length (drop at s)) (omega (arith, length-drop at s)), e)
 
@@ -79,8 +80,8 @@ module _ (s : List ℕ) (at : ℕ) (key : List ℕ) (n : ℕ) where
 
   -- its fields, where the end is known
   pub line-fields : Keyed s at key → find s at 10 < length s
-      → line_at s at key n ≡ fields_of n (find s at 10 + 1) 0 zeros (pieces 44 (take (find s at 10 - (at + length key)) (drop (at + length key) s)))
+      → line_at s at key n ≡ fields_of n (find s at 10 + 1) 0 zeros (pieces 44 (drop (length key) (up_to 10 (drop at s))))
   unfolding fields_at
   line-fields k h =
       let e = same_end k in
-      keyed-line k ∙ rw (e, lt-ltb (find s (at + length key) 10) (length s) (omega arith), piece s (at + length key) 10)
+      keyed-line k ∙ rw (e, lt-ltb (find s (at + length key) 10) (length s) (omega arith), behind k, drop-append_seam key (up_to 10 (drop (at + length key) s)))

@@ -9,22 +9,21 @@ use lib.ListN.{length, set}
 use lib.Seq.{sets}
 use lib.IntN.{ℤ}
 use borrow.Author.Tests.{eq-eqb, ne_eqb}
-use Rattle.std.specs.Prelude.{Some, None}
+use Rattle.std.specs.Prelude.{Some, None, Err}
 use Rattle.text.specs.Number.{number_of}
 use Rattle.sheet.specs.declared.Refusal.TheVariants.{WrongCount, NotANumber}
-use Rattle.document.specs.Schema.{refused, Numbers, none-at, all_are, on_numbers, numbers_of}
-use Rattle.form.specs.Formed.{handed}
+use Rattle.document.specs.Schema.{Numbers, none-at, all_are, on_numbers, numbers_of}
 use Rattle.form.specs.Fields.{accepted, fields_of}
 
 -- what the other pieces are as numbers, once the first is stored
 stored : (next i : ℕ) (vals : List ℤ) (z : ℤ) (ns : Numbers) →
-    on_numbers (on_numbers ns none-at (λ zs. all_are (z ∷ zs))) (λ j. handed 0 (refused (NotANumber j))) (λ zs. accepted next (sets vals i zs))
-    ≡ on_numbers ns (λ j. handed 0 (refused (NotANumber j))) (λ zs. accepted next (sets (set vals i z) (suc i) zs))
+    on_numbers (on_numbers ns none-at (λ zs. all_are (z ∷ zs))) (λ j. Err (NotANumber j)) (λ zs. accepted next (sets vals i zs))
+    ≡ on_numbers ns (λ j. Err (NotANumber j)) (λ zs. accepted next (sets (set vals i z) (suc i) zs))
 stored next i vals z (none-at j) = refl
 stored next i vals z (all_are zs) = refl
 
 module _ (n next i : ℕ) (vals : List ℤ) where
-  pub fields_wrong : (ps : List (List ℕ)) → (i + length ps ≡ n → ⊥) → fields_of n next i vals ps ≡ handed 0 (refused WrongCount)
+  pub fields_wrong : (ps : List (List ℕ)) → (i + length ps ≡ n → ⊥) → fields_of n next i vals ps ≡ Err WrongCount
   unfolding fields_of
   fields_wrong ps h = rw (ne_eqb _ _ h)
 
@@ -34,7 +33,7 @@ module _ (n next i : ℕ) (vals : List ℤ) where
   fields-done (p ∷ ps) z h = absurd (omega arith)
 
   module _ (p : List ℕ) (ps : List (List ℕ)) where
-    pub fields-bad : i + length (p ∷ ps) ≡ n → number_of p ≡ None → fields_of n next i vals (p ∷ ps) ≡ handed 0 (refused (NotANumber (i + 1)))
+    pub fields-bad : i + length (p ∷ ps) ≡ n → number_of p ≡ None → fields_of n next i vals (p ∷ ps) ≡ Err (NotANumber (i + 1))
     unfolding fields_of numbers_of
     fields-bad h e = rw (eq-eqb _ _ h, e, add-one i)
 

@@ -20,7 +20,7 @@ use Rattle.text.specs.Decimal.{digits, decimal}
 use Rattle.text.specs.Scanning.{begins}
 use Rattle.text.specs.Number.{digits_read, leading_zero, unsigned, negated, number_within}
 use Rattle.text.proofs.Decimal.{digits-one, digits_more, by_digits, length_digits, digits-below, leads}
-use Rattle.text.proofs.Scanning.{begins-key}
+use Rattle.text.proofs.Scanning.{begins-key, begins_by_prefix}
 
 -- One step of reading, at a place.
 module _ (f : List ℕ) (i : ℕ) (h : i < length f) (n : ℕ) where
@@ -182,11 +182,6 @@ only-small w l z e = (number-text w l z e).1
 no_zero : (l : List ℕ) → (1 < length l → get_or l 0 0 ≡ 48 → ⊥) → leading_zero l ≡ false
 no_zero l n = grind (arith, nat_tests)
 
-sign_test : (l : List ℕ) → begins (bytes "-") l ≡ pointwise eqb (take 1 l) (bytes "-")
-unfolding begins
-sign_test [] = refl
-sign_test (b ∷ l) = refl
-
 -- `unsigned` by the code's tests
 module _ (most : ℕ) (l : List ℕ) where
   pub unsigned_empty : length l ≡ 0 → unsigned most l ≡ None
@@ -209,10 +204,10 @@ module _ (most : ℕ) (l : List ℕ) where
 module _ (most : ℕ) (l : List ℕ) where
   pub within_signed : pointwise eqb (take 1 l) (bytes "-") ≡ true → number_within most l ≡ negated (unsigned most (drop 1 l))
   unfolding number_within
-  within_signed e = rw (sign_test l, e)
+  within_signed e = rw (begins_by_prefix (bytes "-") l, e)
 
   pub within_plain : pointwise eqb (take 1 l) (bytes "-") ≡ false → number_within most l ≡ unsigned most l
   unfolding number_within
-  within_plain e = rw (sign_test l, e)
+  within_plain e = rw (begins_by_prefix (bytes "-") l, e)
 
 pub ruleset by_tests = (unsigned_empty, unsigned_long, unsigned_zero, unsigned_reads, within_signed, within_plain, read_low, read-high, read-digit, read_end, below_more, below-most)

@@ -195,3 +195,10 @@ unfolding begins
 begins_by_parts [] s = refl
 begins_by_parts (k ∷ key) [] = refl
 begins_by_parts (k ∷ key) (b ∷ s) = rw (same_test b k, begins_by_parts key s)
+
+-- the same, as the library asks it where the key is taken off
+pub begins_by_prefix : (key s : List ℕ) → begins key s ≡ pointwise eqb (take (length key) s) key
+unfolding begins
+begins_by_prefix [] s = refl
+begins_by_prefix (k ∷ key) [] = refl
+begins_by_prefix (k ∷ key) (b ∷ s) = rw (begins_by_prefix key s)

@@ -1,7 +1,6 @@
 -- `keyed` meets its contract: what is left of the key stands behind the place just where the whole key stands at it.
 -- Assumes nothing.
-use Rattle.std.proofs.Common.{◌≡◌, ◌+◌, ◌-◌, ◌<◌, ◌≤◌, length, drop, sym, refl, ◌∙◌, ⊎_elim, arith, length-drop, get_or-drop, rules, eqb-true}
-use borrow.Author.Tests.{eqb-false, not-true, not-false}
+use Rattle.std.proofs.Common.{◌≡◌, ◌+◌, ◌-◌, ◌<◌, ◌≤◌, length, drop, sym, refl, ◌∙◌, ⊎_elim, arith, length-drop, get_or-drop, rules}
 use Rattle.text.specs.Scanning.{count, begins}
 use Rattle.text.proofs.Scanning.{begins-same, begins-other, begins_end, count_hit, count_miss, count_end}
 use Rattle.quick.proofs.Keys.{past_end, other_key, line_feed, key-stands}

@@ -1,6 +1,6 @@
 -- `number` meets its contract: reading on up to the byte c, behind what was read before, gives what reading from the
 -- number's beginning gives. Assumes nothing.
-use Rattle.std.proofs.Common.{◌≡◌, suc, ◌+◌, ◌-◌, ◌*◌, ◌^◌, ◌<◌, ◌≤◌, length, get_or, drop, refl, ◌∙◌, ⊎_elim, pow-suc, arith, w64, rules, ltb-false}
+use Rattle.std.proofs.Common.{◌≡◌, suc, ◌+◌, ◌-◌, ◌*◌, ◌^◌, ◌<◌, ◌≤◌, length, get_or, drop, refl, ◌∙◌, ⊎_elim, pow-suc, arith, w64, rules}
 use mir.ValLaws.{to_z_pos}
 use Rattle.text.specs.Number.{digits_read}
 use Rattle.text.specs.Scanning.{up_to, find}
