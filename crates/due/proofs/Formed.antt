@@ -12,7 +12,7 @@ use lib.IntN.{ℤ, pos}
 use borrow.Author.Tests.{ne_eqb, ltb-true}
 use Rattle.limits.specs.declared.Number.{Number}
 use Rattle.text.specs.Scanning.{up_to}
-use Rattle.std.specs.Prelude.{Result, Ok, Err}
+use Rattle.std.specs.Prelude.{Option, Some, Result, Ok, Err}
 use Rattle.sheet.specs.declared.Refusal.{Refusal}
 use Rattle.sheet.specs.Refusals.{number}
 use Rattle.sheet.proofs.Refusals.{numbered}
@@ -103,9 +103,9 @@ module _ (s : List ℕ) (p : Place) (key : List ℕ) (n : ℕ) (r : Ready s p) (
       record { after = record { reads = λ x. c.0; passes = λ x. not-both (good p) yes x; fair = λ x. c.1 }; whole = line-values (Ok l) e }
 
   -- the key stands there, and behind it the quick reader has read the row
-  pub row_read : (v w : List ℤ) (next : ℕ) → standing s p.at key ≡ true → v ≡ zeros → RowRead s (p.at + length key) n v w next
-      → (next ≡ 0 → ⊥) → FormAfter s p key n (going_on p.line next) w
-  row_read v w next k z a some = form_read (record { next = next; values = w }) (a.read some ∙ rw z (sym (keyed-line _ _ _ _ (keyed s p.at key k))))
+  pub row_read : (v w : List ℤ) (o : Option ℕ) (next : ℕ) → standing s p.at key ≡ true → v ≡ zeros → RowRead s (p.at + length key) n v w o
+      → o ≡ Some next → FormAfter s p key n (going_on p.line next) w
+  row_read v w o next k z a is = form_read (record { next = next; values = w }) (a.read next is ∙ rw z (sym (keyed-line _ _ _ _ (keyed s p.at key k))))
 
 -- the numbers taken out of the array
 pub due_form : (s : List ℕ) (p : Place) (key : List ℕ) (n : ℕ) (q : Place) (v : List ℤ) (w : List Number) → n ≤ fields_most → plain_numbers w ≡ v

@@ -90,8 +90,7 @@ fn read_form(s: &[u8], p: Place, key: &[u8], n: usize, v: &mut [i64; FIELDS_MOST
 {
     if p.number == 0 {
         if quick::keyed(s, p.at, key) {
-            let next = quick::row(s, p.at + key.len(), n, v);
-            if next != 0 {
+            if let Some(next) = quick::row(s, p.at + key.len(), n, v) {
                 return onward(p.line, next);
             }
         }

@@ -101,8 +101,7 @@ fn gas_form(s: &[u8], p: Place, v: &mut [i64; FIELDS_MOST]) -> Place
 {
     if p.number == 0 {
         if quick::keyed(s, p.at, b"gas=") {
-            let next = quick::row(s, p.at + 4, GASES, v);
-            if next != 0 {
+            if let Some(next) = quick::row(s, p.at + 4, GASES, v) {
                 return onward(p.line, next);
             }
         }

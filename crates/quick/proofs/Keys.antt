@@ -1,31 +1,44 @@
 -- What decides whether a key stands at a place, and what a caller learns where it does. Assumes nothing.
-use Rattle.std.proofs.Common.{◌≡◌, ℕ, ◌+◌, ◌<◌, ◌≤◌, Bool, true, false, ◌&&◌, eqb, leb, List, length, drop, refl, eq-eqb, ne_eqb, eqb-true, le-leb, leb-true}
-use borrow.Author.Tests.{lt-leb}
+use Rattle.std.proofs.Common.{◌≡◌, ℕ, suc, ◌+◌, ◌-◌, ◌≤◌, Bool, true, false, cond, not, ◌&&◌, ◌||◌, eqb, leb, List, [], ◌∷◌, length, take, drop, refl, ap, arith, ne_eqb, eqb-true, le-leb, leb-true, length-append, length-drop}
+use mathlib.Core.Bool.{and-false}
+use lib.Seq.{take_all}
+use Rattle.std.specs.List.{list_any}
+use Rattle.std.specs.Cmp.Lexicographic.{pointwise}
+use Rattle.text.proofs.Scanning.{begins-key, begins_by_parts}
 use Rattle.text.specs.Scanning.{count, begins}
 use Rattle.document.proofs.Cases.{both}
 use Rattle.form.specs.Fields.{Keyed}
 use Rattle.quick.specs.Key.{standing}
 
-no_second : (a : Bool) → a && false ≡ false
-no_second true = refl
-no_second false = refl
+twice : (u : Bool) → u ≡ not (not u)
+twice true = refl
+twice false = refl
+
+-- no LF, in the library's words
+feeds : (key : List ℕ) → list_any (λ y. eqb y 10) key ≡ not (eqb (count key 10) 0)
+unfolding count
+feeds [] = refl
+feeds (b ∷ key) = here (eqb b 10) (feeds key)
+  where
+    here : (t : Bool) → list_any (λ y. eqb y 10) key ≡ not (eqb (count key 10) 0)
+        → t || list_any (λ y. eqb y 10) key ≡ not (eqb (cond t (suc (count key 10)) (count key 10)) 0)
+    here true q = rw (ne_eqb (suc (count key 10)) 0 (λ e. omega arith))
+    here false q = q
 
 module _ (s : List ℕ) (at : ℕ) (key : List ℕ) where
-  pub past_end : length s < at + length key → standing s at key ≡ false
+  -- by the library's two tests: the key begins what is behind the place, and holds no LF
+  pub standing_by_tests : at ≤ length s → (a b : Bool) → a ≡ pointwise eqb key (take (length key) (take (length s - at) (drop at s)))
+      → b ≡ list_any (λ y. eqb y 10) key → standing s at key ≡ a && not b
   unfolding standing
-  past_end h = rw (lt-leb (at + length key) (length s) h)
-
-  pub other_key : begins key (drop at s) ≡ false → standing s at key ≡ false
-  unfolding standing
-  other_key e = rw e (no_second (leb (at + length key) (length s)))
-
-  pub line_feed : (count key 10 ≡ 0 → ⊥) → standing s at key ≡ false
-  unfolding standing
-  line_feed n = rw (ne_eqb (count key 10) 0 n, no_second (begins key (drop at s))) (no_second (leb (at + length key) (length s)))
-
-  pub key-stands : at + length key ≤ length s → begins key (drop at s) ≡ true → count key 10 ≡ 0 → standing s at key ≡ true
-  unfolding standing
-  key-stands h e f = rw (le-leb (at + length key) (length s) h, e, eq-eqb (count key 10) 0 f)
+  standing_by_tests h a b e f =
+      let all : take (length s - at) (drop at s) ≡ drop at s = take_all (length s - at) (drop at s) (omega (arith, length-drop at s)) in
+      rw (e, f, all, ← begins_by_parts key (drop at s), feeds key) (here (begins key (drop at s)) refl (eqb (count key 10) 0))
+    where
+      here : (t : Bool) → begins key (drop at s) ≡ t → (u : Bool) → leb (at + length key) (length s) && (t && u) ≡ t && not (not u)
+      here true q u =
+          let r = ap length (begins-key key (drop at s) q) in
+          rw (le-leb (at + length key) (length s) (omega (arith, r, length-append key (drop (length key) (drop at s)), length-drop at s))) (twice u)
+      here false q u = and-false (leb (at + length key) (length s))
 
   pub inside : standing s at key ≡ true → at + length key ≤ length s
   unfolding standing

@@ -1,9 +1,10 @@
 -- The number at a place: its digits are read up to the byte that closes it, and no comma and no LF stands in it.
 -- Assumes nothing.
-use Rattle.std.proofs.Common.{◌≡◌, ℕ, zero, suc, ◌+◌, ◌-◌, ◌*◌, ◌^◌, ◌<◌, ◌≤◌, Bool, true, false, ◌&&◌, eqb, ltb, List, [], ◌∷◌, ◌++◌, length, get_or, drop, set, ℤ, pos, negsuc, neg_ℤ, sym, refl, ap, ◌∙◌, add-zero, add-one, arith, lit<, length-append, get_or-drop, drop-cons, get_or-take, ltb-true, le-ltb, lt-ltb, eq-eqb, ne_eqb, eqb-true, le-leb}
+use Rattle.std.proofs.Common.{◌≡◌, ℕ, zero, suc, ◌+◌, ◌-◌, ◌*◌, ◌^◌, ◌<◌, ◌≤◌, Bool, true, false, ◌&&◌, eqb, ltb, List, [], ◌∷◌, ◌++◌, length, get_or, drop, set, ℤ, pos, negsuc, neg_ℤ, nat_abs, w64, SFits, sym, refl, ap, ◌∙◌, add-zero, add-one, arith, lit<, length-append, get_or-drop, drop-cons, get_or-take, ltb-true, le-ltb, lt-ltb, eq-eqb, ne_eqb, eqb-true, le-leb}
 use native.Mathlib.Nat.{pow-le-pow_right}
 use lib.Signed.{lt_z}
-use Rattle.std.specs.Prelude.{Some, None}
+use Rattle.std.specs.Prelude.{Some, None, IfSome}
+use Rattle.std.specs.Bool.{then_some}
 use Rattle.text.specs.Bytes.{bytes}
 use Rattle.text.specs.Decimal.{decimal}
 use Rattle.text.specs.Number.{digits_read, leading_zero, unsigned, number_within, number_of}
@@ -58,6 +59,11 @@ module _ (s : List ℕ) (c i : ℕ) (h : i < length s) (m : ℕ) where
   unfolding digits_read up_to
   digit_end e = rw (drop-cons s i 0, eq-eqb (get_or s i 0) c e)
 
+-- what is answered only where a test holds
+pub where_true : {A : Type 0} (P : A → Type 0) (t : Bool) (x : A) → (t ≡ true → P x) → IfSome (then_some t x) P
+where_true P true x f = f refl
+where_true P false x f = tt
+
 -- nine digits are a number below 10⁹
 pub few : (e m : ℕ) → m < 10 ^ e → e ≤ 9 → m < 1000000000
 few e m h l = let p : 10 ^ e ≤ 10 ^ 9 = pow-le-pow_right {n = 10} (lit< tt) l in omega arith
@@ -80,14 +86,23 @@ digits_seen s at c k m p h e q z f d =
     }
 
 -- a number above zero, with a sign before it, is as much below zero
-below : (l : List ℕ) (z : ℤ) → lt_z z (pos 1) ≡ false → number_of l ≡ Some z → number_of (45 ∷ l) ≡ Some (neg_ℤ z)
+below : (l : List ℕ) (z : ℤ) → lt_z (pos 0) z ≡ true → number_of l ≡ Some z → number_of (45 ∷ l) ≡ Some (neg_ℤ z)
 unfolding decimal
-below l (pos zero) h e = let w : ◌≡◌ {A = ℕ} 0 1 = cc in absurd (omega arith)
-below l (negsuc n) h e = let w : ◌≡◌ {A = ℕ} 0 1 = cc in absurd (omega arith)
+below l (pos zero) h e = absurd cc
+below l (negsuc n) h e = absurd cc
 below l (pos (suc n)) h e = rw (only-text 9 l (pos (suc n)) e) (read_back 9 (negsuc n) (lit< tt) (only-small 9 l (pos (suc n)) e))
 
+-- a number of the sheet fits, and so does its opposite
+pub number_fits : (l : List ℕ) (z : ℤ) → number_of l ≡ Some z → SFits w64 z × SFits w64 (neg_ℤ z)
+number_fits l z e = here z (only-small 9 l z e)
+  where
+    here : (z : ℤ) → nat_abs z < 10 ^ 9 → SFits w64 z × SFits w64 (neg_ℤ z)
+    here (pos zero) h = (record { sfits = omega arith }, record { sfits = omega arith })
+    here (pos (suc n)) h = (record { sfits = omega arith }, record { sfits = omega arith })
+    here (negsuc n) h = (record { sfits = omega arith }, record { sfits = omega arith })
+
 -- THE LAW: a sign and a number above zero behind it are a number
-pub behind-sign : (s : List ℕ) (at c : ℕ) (z : ℤ) (next : ℕ) → at < length s → get_or s at 0 ≡ 45 → c < 45 → lt_z z (pos 1) ≡ false
+pub behind-sign : (s : List ℕ) (at c : ℕ) (z : ℤ) (next : ℕ) → at < length s → get_or s at 0 ≡ 45 → c < 45 → lt_z (pos 0) z ≡ true
     → Number s (at + 1) c z next → Number s at c (neg_ℤ z) next
 unfolding up_to
 behind-sign s at c z next h e l p w =
