@@ -1,15 +1,15 @@
 -- The number at a place: its digits are read up to the byte that closes it, and no comma and no LF stands in it.
 -- Assumes nothing.
-use Rattle.std.proofs.Common.{◌≡◌, ℕ, zero, suc, ◌+◌, ◌-◌, ◌*◌, ◌^◌, ◌<◌, ◌≤◌, Bool, true, false, ◌&&◌, eqb, ltb, List, [], ◌∷◌, ◌++◌, length, get_or, drop, set, ℤ, pos, negsuc, neg_ℤ, nat_abs, w64, SFits, sym, refl, ap, ◌∙◌, add-zero, add-one, arith, lit<, length-append, get_or-drop, drop-cons, get_or-take, ltb-true, le-ltb, lt-ltb, eq-eqb, ne_eqb, eqb-true, le-leb}
+use Rattle.std.proofs.Common.{◌≡◌, ℕ, zero, suc, ◌+◌, ◌-◌, ◌*◌, ◌^◌, ◌<◌, ◌≤◌, Bool, true, false, ◌&&◌, eqb, List, [], ◌∷◌, ◌++◌, length, get_or, drop, set, ℤ, pos, negsuc, neg_ℤ, nat_abs, w64, SFits, sym, refl, ap, ◌∙◌, add-zero, add-one, arith, lit<, length-append, get_or-drop, drop-cons, get_or-take, le-ltb, lt-ltb, eq-eqb, ne_eqb, eqb-true}
 use native.Mathlib.Nat.{pow-le-pow_right}
 use lib.Signed.{lt_z}
 use Rattle.std.specs.Prelude.{Some, None, IfSome}
 use Rattle.std.specs.Bool.{then_some}
 use Rattle.text.specs.Bytes.{bytes}
 use Rattle.text.specs.Decimal.{decimal}
-use Rattle.text.specs.Number.{digits_read, leading_zero, unsigned, number_within, number_of}
+use Rattle.text.specs.Number.{digits_read, number_within, number_of}
 use Rattle.text.specs.Scanning.{up_to, find, count, begins}
-use Rattle.text.proofs.Reading.{read_back, only-text, only-small}
+use Rattle.text.proofs.Reading.{read_back, only-text, only-small, unsigned_reads}
 use Rattle.text.proofs.Scanning.{up_to_front, found, find_hit, find_miss}
 use Rattle.document.specs.Schema.{pieces}
 use Rattle.document.proofs.Pieces.{pieces-last, pieces_more, decimal-clear}
@@ -23,13 +23,6 @@ number-clear : (c : ℕ) → c < 45 → (l : List ℕ) (z : ℤ) → number_of l
 number-clear c h l z e = rw (only-text 9 l z e) (decimal-clear c h z)
 
 -- how a number without a sign begins
-no_zero : (l : List ℕ) → (1 < length l → get_or l 0 0 ≡ 48 → ⊥) → leading_zero l ≡ false
-no_zero l z = here (ltb 1 (length l)) refl
-  where
-    here : (t : Bool) → ltb 1 (length l) ≡ t → t && eqb (get_or l 0 0) 48 ≡ false
-    here true e = ne_eqb (get_or l 0 0) 48 (z (ltb-true 1 (length l) e))
-    here false e = refl
-
 no_sign : (l : List ℕ) (z : ℤ) → digits_read 0 l ≡ Some z → begins (bytes "-") l ≡ false
 unfolding digits_read begins
 no_sign [] z e = refl
@@ -71,7 +64,7 @@ few e m h l = let p : 10 ^ e ≤ 10 ^ 9 = pow-le-pow_right {n = 10} (lit< tt) l 
 -- THE LAW: the digits that the loop has seen are a number
 pub digits_seen : (s : List ℕ) (at c k m : ℕ) → at < k → k < length s → get_or s k 0 ≡ c → k ≤ at + 9 → (at + 1 < k → get_or s at 0 ≡ 48 → ⊥)
     → find s k c ≡ find s at c → digits_read m (up_to c (drop k s)) ≡ digits_read 0 (up_to c (drop at s)) → Number s at c (pos m) (k + 1)
-unfolding number_within unsigned
+unfolding number_within
 digits_seen s at c k m p h e q z f d =
     let l = up_to c (drop at s) in
     let g = find_hit c s k h e in
@@ -82,7 +75,7 @@ digits_seen s at c k m p h e q z f d =
     record {
       inside = omega arith;
       ends = omega arith;
-      says = rw (no_sign l (pos m) r, lt-ltb 0 (length l) (omega arith), le-leb (length l) 9 (omega arith), no_zero l (λ o w. z (omega arith) (sym b ∙ w))) r;
+      says = rw (no_sign l (pos m) r) (sym (unsigned_reads 9 l (omega arith) (omega arith) (λ o w. z (omega arith) (sym b ∙ w))) ∙ r);
     }
 
 -- a number above zero, with a sign before it, is as much below zero
