@@ -1,8 +1,15 @@
 -- Each step of reading, and that so few digits fit. Assumes nothing.
 use Rattle.std.proofs.Common.{◌≤◌, get_or, ap, sym, ◌∙◌, arith, Some, w64}
 use mir.ValLaws.{to_z_pos}
-use Rattle.text.proofs.Reading.{read-digit, read_end, below_more, below-most}
+use Rattle.text.proofs.Reading.{unsigned_reads, read-digit, read_end, below_more, below-most}
 use Rattle.text.proofs.read.unsigned.Goals as goal
+
+pub loop-b-init : goal.loop-b-init
+loop-b-init c = record {
+  rest = unsigned_reads c.args.most c.args.f.now (grind arith) (omega arith) (λ o e. grind arith);
+  below = omega arith;
+  short = omega (arith, c.requires);
+}
 
 pub overflow_mul-n : goal.overflow_mul-n
 overflow_mul-n c = let l = c.loop-b in omega (arith, below-most l.n l.b-index l.invariant.below (omega arith))
