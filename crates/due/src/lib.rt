@@ -64,10 +64,7 @@ pub fn careful(s: &[u8], p: Place, key: &[u8], n: usize, v: &mut [i64; FIELDS_MO
     requires v_len { length v.old ≡ fields_most }
     ensures { FormAfter s.now p key.now n result v.new }
 {
-    // The same text and key once more, for the compiler: docs/DECISIONS.md, "A text that is handed on is taken anew".
-    let text = &s[..];
-    let given = &key[..];
-    match form::judged(text, p.at, given, n) {
+    match form::judged(s, p.at, key, n) {
         Ok(l) => {
             let values = l.values;
             *v = values;

@@ -32,15 +32,13 @@ pub fn row(s: &[u8], start: usize, n: usize, v: &mut [i64; FIELDS_MOST]) -> Opti
     requires { n ≤ fields_most }
     ensures { RowRead s.now start n v.old v.new result }
 {
-    // The same text once more, for the compiler: docs/DECISIONS.md, "A text that is handed on is taken anew".
-    let text = &s[..];
     let mut at = start;
     for i in 0..n {
         let c = if i + 1 == n { b'\n' } else { b',' };
-        let q = if at < text.len() && !text[at].is_ascii_digit() {
-            below_zero(text, at, c)?
+        let q = if at < s.len() && !s[at].is_ascii_digit() {
+            below_zero(s, at, c)?
         } else {
-            number(text, at, c)?
+            number(s, at, c)?
         };
         v[i] = q.value;
         if i + 1 == n {
