@@ -11,8 +11,8 @@ returns : tie.Need-returns-then-noted-rise
 returns c =
     let s = c.before.before in
     let same = c.if-noted-rise.true in
-    let in-range = subst (λ (x : ℕ). x ≤ warmer_most) (sym same) s.requires.0 in
-    subst (λ (x : ℕ). s.args.noted.root ≡ fourth_root x) same (s.requires.1.is in-range)
+    let in-range = subst (λ (x : ℕ). x ≤ warmer_most) (sym same) s.requires in
+    subst (λ (x : ℕ). s.args.noted.root ≡ fourth_root x) same (s.args.noted.rooted.is in-range)
 
 pub known_spec : {M : Type 1} → statement M
 known_spec = tie.close (tie.spec (λ c κs. search rules) returns (λ c. search rules))
