@@ -10,7 +10,7 @@ ghost use Rattle.formulas.specs.Figures.{Within, Figure};
 ghost use Rattle.formulas.specs.Sizes.{greatest, sensible_most, setters_heat_most, parts_heat_most};
 ghost use Rattle.solids.specs.Steps.{Loads, WareWarmed, WareFired, setters_of, parts_of};
 
-use crate::material::{TABLE_A2_A, TABLE_A2_B, sensible};
+use crate::material::sensible;
 use quantity::heat::Joules;
 use quantity::mass::{Kilos, Product};
 use quantity::sheet::{PartCount, SetterCount};
@@ -39,9 +39,6 @@ pub fn setter_heats(setters: Setters, t: Degrees, highest: Degrees) -> SetterHea
     ensures figure { (f : Firing) → f.setters ≡ setters_of setters → f.ambient ≡ t.0 → Figure joule setters_heat_most result.q3.0 (q3 f paper) }
     ensures figure_2 { (f : Firing) → f.setters ≡ setters_of setters → f.ware.highest ≡ highest.0 → Figure joule setters_heat_most result.x5.0 (x5 f paper) }
 {
-    // So written for the compiler: docs/DECISIONS.md, "A constant array is bound before a loop".
-    let a = TABLE_A2_A;
-    let b = TABLE_A2_B;
     let lines = setters.lines;
     let count = held(setters.count.0, SetterCount::GREATEST);
     let mut q3 = Joules(0);
@@ -49,8 +46,8 @@ pub fn setter_heats(setters: Setters, t: Degrees, highest: Degrees) -> SetterHea
     // So written for the compiler: docs/DECISIONS.md, "Two heats in one loop".
     for i in 0..count {
         let setter = lines[i];
-        q3 = q3.plus(sensible(&a, &b, setter.mass, setter.stuff, setter.entry, t));
-        x5 = x5.plus(sensible(&a, &b, setter.mass, setter.stuff, highest, setter.entry));
+        q3 = q3.plus(sensible(setter.mass, setter.stuff, setter.entry, t));
+        x5 = x5.plus(sensible(setter.mass, setter.stuff, highest, setter.entry));
     }
     SetterHeats { q3, x5 }
 }
@@ -61,9 +58,6 @@ pub fn part_heats(parts: Parts, t: Degrees) -> PartHeats
     ensures figure { (f : Firing) → f.parts ≡ parts_of parts → f.ambient ≡ t.0 → Figure joule parts_heat_most result.q8.0 (q8 f paper) }
     ensures figure_2 { (f : Firing) → f.parts ≡ parts_of parts → f.ambient ≡ t.0 → Figure joule parts_heat_most result.x10.0 (x10 f paper) }
 {
-    // So written for the compiler: docs/DECISIONS.md, "A constant array is bound before a loop".
-    let a = TABLE_A2_A;
-    let b = TABLE_A2_B;
     let lines = parts.lines;
     let count = held(parts.count.0, PartCount::GREATEST);
     let mut q8 = Joules(0);
@@ -71,8 +65,8 @@ pub fn part_heats(parts: Parts, t: Degrees) -> PartHeats
     // So written for the compiler: docs/DECISIONS.md, "Two heats in one loop".
     for i in 0..count {
         let part = lines[i];
-        q8 = q8.plus(sensible(&a, &b, part.mass, part.stuff, part.before, t));
-        x10 = x10.plus(sensible(&a, &b, part.mass, part.stuff, part.firing, t));
+        q8 = q8.plus(sensible(part.mass, part.stuff, part.before, t));
+        x10 = x10.plus(sensible(part.mass, part.stuff, part.firing, t));
     }
     PartHeats { q8, x10 }
 }
@@ -82,9 +76,7 @@ pub fn q5(ware: Ware, t: Degrees) -> Joules
     requires { WareWarmed (ware_of ware) t.0 }
     ensures { (f : Firing) → f.ware ≡ ware_of ware → f.ambient ≡ t.0 → Figure joule sensible_most result.0 (q5 f paper) }
 {
-    let a = TABLE_A2_A;
-    let b = TABLE_A2_B;
-    sensible(&a, &b, ware.green, ware.stuff, ware.entry, t)
+    sensible(ware.green, ware.stuff, ware.entry, t)
 }
 
 // The fired ware's heat, from its entry to the highest temperature.
@@ -92,8 +84,6 @@ pub fn x1(product: Product, ware: Ware) -> Joules
     requires { WareFired product.0 (ware_of ware) }
     ensures { (f : Firing) → f.product ≡ product.0 → f.ware ≡ ware_of ware → Figure joule sensible_most result.0 (x1 f paper) }
 {
-    let a = TABLE_A2_A;
-    let b = TABLE_A2_B;
     let mass = Kilos(product.0);
-    sensible(&a, &b, mass, ware.stuff, ware.highest, ware.entry)
+    sensible(mass, ware.stuff, ware.highest, ware.entry)
 }

@@ -13,11 +13,11 @@ specific-heat-requires : tie.Need-specific_heat-c-requires
 specific-heat-requires c κs = search rules
 
 above-requires : tie.Need-above-requires
-above-requires c κs = let p = c.requires.1 in fit (within p.at ∷ within p.from ∷ []) (raw 0 ⟨-⟩ raw 1) tt
+above-requires c κs = let p = c.requires in fit (within p.at ∷ within p.from ∷ []) (raw 0 ⟨-⟩ raw 1) tt
 
 stored-requires : tie.Need-stored-requires
 stored-requires c κs =
-    let p = c.requires.1 in
+    let p = c.requires in
     let ks = within p.mass ∷ within c.specific_heat-c.ensures.size ∷ within p.at ∷ within p.from ∷ [] in
     rw c.above.ensures (record { one = fit ks (raw 0 ⟨*⟩ raw 1) tt; all = fit ks (raw 0 ⟨*⟩ raw 1 ⟨*⟩ (raw 2 ⟨-⟩ raw 3)) tt })
 
@@ -29,7 +29,7 @@ unfolding sensible
 returns c =
     let s = c.before.before.before.before in
     let h = c.specific_heat-c.ensures in
-    let p = s.requires.1 in
+    let p = s.requires in
     let ks = within p.mass ∷ within (rw h.is at h.size) ∷ within p.at ∷ within p.from ∷ [] in
     rounded ks (raw 0 ⟨*⟩ raw 1 ⟨*⟩ (raw 2 ⟨-⟩ raw 3)) (10 ^ 6) (joule / 10 ^ 6) tt units
     (rw (c.joules.ensures, c.stored.ensures, c.above.ensures, h.is))

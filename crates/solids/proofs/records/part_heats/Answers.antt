@@ -13,16 +13,16 @@ use Rattle.solids.proofs.records.part_heats.Goals as goal
 pub loop-i-init : goal.loop-i-init
 loop-i-init c = begun
 
-pub sensible-requires-clause-warmed : goal.sensible-requires-clause-warmed
-sensible-requires-clause-warmed c =
+pub sensible-requires : goal.sensible-requires
+sensible-requires c =
     let long : length c.args.parts.lines ≡ parts_most = search (rules, unmapped) in
     let inside : c.loop-i.i < length c.args.parts.lines = omega arith in
     let h : PartIn (part (get_or c.args.parts.lines c.loop-i.i blank_part)) =
     each PartIn part c.args.parts.lines c.args.parts.count.0 c.loop-i.i blank_part c.requires.each (omega arith) inside in
     record { mass = sized h.mass tt; stuff = h.stuff; at = sized h.before tt; from = c.requires.other }
 
-pub sensible-requires-in-loop-i-clause-warmed : goal.sensible-requires-in-loop-i-clause-warmed
-sensible-requires-in-loop-i-clause-warmed c =
+pub sensible-requires-in-loop-i : goal.sensible-requires-in-loop-i
+sensible-requires-in-loop-i c =
     let long : length c.args.parts.lines ≡ parts_most = search (rules, unmapped) in
     let inside : c.loop-i.i < length c.args.parts.lines = omega arith in
     let h : PartIn (part (get_or c.args.parts.lines c.loop-i.i blank_part)) =

@@ -13,16 +13,16 @@ use Rattle.solids.proofs.records.setter_heats.Goals as goal
 pub loop-i-init : goal.loop-i-init
 loop-i-init c = begun
 
-pub sensible-requires-clause-warmed : goal.sensible-requires-clause-warmed
-sensible-requires-clause-warmed c =
+pub sensible-requires : goal.sensible-requires
+sensible-requires c =
     let long : length c.args.setters.lines ≡ setters_most = search (rules, unmapped) in
     let inside : c.loop-i.i < length c.args.setters.lines = omega arith in
     let h : SetterIn (setter (get_or c.args.setters.lines c.loop-i.i blank_setter)) =
     each SetterIn setter c.args.setters.lines c.args.setters.count.0 c.loop-i.i blank_setter c.requires.loads.each (omega arith) inside in
     record { mass = sized h.mass tt; stuff = h.stuff; at = sized h.entry tt; from = c.requires.loads.other }
 
-pub sensible-requires-in-loop-i-clause-warmed : goal.sensible-requires-in-loop-i-clause-warmed
-sensible-requires-in-loop-i-clause-warmed c =
+pub sensible-requires-in-loop-i : goal.sensible-requires-in-loop-i
+sensible-requires-in-loop-i c =
     let long : length c.args.setters.lines ≡ setters_most = search (rules, unmapped) in
     let inside : c.loop-i.i < length c.args.setters.lines = omega arith in
     let h : SetterIn (setter (get_or c.args.setters.lines c.loop-i.i blank_setter)) =
