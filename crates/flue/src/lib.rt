@@ -258,10 +258,10 @@ pub fn flue_heats(burning: Burning, moisture: Moisture, stages: Stages, t: Degre
     let mut x7 = Joules(0);
     let mut x8 = Joules(0);
     // So written for the compiler: docs/DECISIONS.md, "Two heats in one loop".
-    for i in 0..count {
-        let stage = stage_heats(burning, moisture, lines[i], t);
-        x7 = x7.plus(stage.x7);
-        x8 = x8.plus(stage.x8);
+    for stage in &lines[..count] {
+        let heats = stage_heats(burning, moisture, *stage, t);
+        x7 = x7.plus(heats.x7);
+        x8 = x8.plus(heats.x8);
     }
     FlueHeats { x7, x8 }
 }

@@ -8,6 +8,7 @@ use native.Mathlib.Omega.{arith}
 use lib.Dec.{T, ltb, ltb→lt}
 use lib.IntN.{ℤ, pos, nat_abs, ◌+ℤ◌}
 use lib.ListN.{length, get_or, take}
+use lib.Seq.{take_all}
 use mir.Syntax.{Width}
 use mir.Val.{SFits, hbits}
 use Rattle.arith.proofs.Ring.{v, #, ◌⊗◌, ring}
@@ -24,6 +25,16 @@ each P g [] n i d p h k = absurd (not-suc-le-zero k)
 each P g (a ∷ l) zero i d p h k = absurd (not-suc-le-zero h)
 each P g (a ∷ l) (suc n) zero d p h k = p.0
 each P g (a ∷ l) (suc n) (suc i) d p h k = each P g l n i d p.1 (le_of_suc-le-suc h) (le_of_suc-le-suc k)
+
+-- what holds of each line that is lent
+pub each_of : {A B : Type 0} (P : B → Type 0) (g : A → B) (l : List A) (i : ℕ) (d : A) → Every P (map g l) → i < length l → P (g (get_or l i d))
+each_of P g [] i d p h = absurd (not-suc-le-zero h)
+each_of P g (a ∷ l) zero d p h = p.0
+each_of P g (a ∷ l) (suc i) d p h = each_of P g l i d p.1 (le_of_suc-le-suc h)
+
+-- as many lines as are held are lent
+pub lent : {A : Type 0} (l : List A) (n : ℕ) {m most : ℕ} → length l ≡ most → m ≡ min n most → take m l ≡ take n l
+lent l n long e = rw e (held l n long)
 
 -- n units, of i figures of at most `most` units each
 pub record Running (unit most i : ℕ) (n x : ℤ) : Type 0 where
@@ -80,3 +91,11 @@ module _ {A B : Type 0} {f g : B → ℤ} {shown : A → B} {l : List A} {unit m
   pub ended : (count most : ℕ) {i : ℕ} {m n : ℤ} → length l ≡ most → i ≡ min count most → Both f g shown l unit most₁ most₂ i m n →
       Figure unit (most * most₁) m (sum f (map shown (take count l))) × Figure unit (most * most₂) n (sum g (map shown (take count l)))
   ended count most long e p = (blocked f shown l count most long e p.one, blocked g shown l count most long e p.two)
+
+  -- the end of a loop over what is lent
+  pub ended_of : (most : ℕ) {i : ℕ} {m n : ℤ} → length l ≤ most → i ≡ length l → Both f g shown l unit most₁ most₂ i m n →
+      Figure unit (most * most₁) m (sum f (map shown l)) × Figure unit (most * most₂) n (sum g (map shown l))
+  ended_of most {i} long e p =
+      let all : take i l ≡ l = take_all i l (omega arith) in
+      let few : i ≤ most = omega arith in
+      (rw all at (at_most most few p.one), rw all at (at_most most few p.two))
