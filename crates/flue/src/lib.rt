@@ -253,12 +253,11 @@ pub fn flue_heats(burning: Burning, moisture: Moisture, stages: Stages, t: Degre
     ensures figure { Figure joule x7_most result.x7.0 (sum (flue_heat paper (burningOf burning) moisture.0 t.0) (stages_of stages)) }
     ensures figure_2 { Figure joule x8_most result.x8.0 (sum (monoxide_heat paper (burningOf burning)) (stages_of stages)) }
 {
-    let lines = stages.lines;
     let count = held(stages.count.0, StageCount::GREATEST);
     let mut x7 = Joules(0);
     let mut x8 = Joules(0);
     // So written for the compiler: docs/DECISIONS.md, "Two heats in one loop".
-    for stage in &lines[..count] {
+    for stage in &stages.lines[..count] {
         let heats = stage_heats(burning, moisture, *stage, t);
         x7 = x7.plus(heats.x7);
         x8 = x8.plus(heats.x8);

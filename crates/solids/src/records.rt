@@ -112,9 +112,8 @@ pub fn setter_heats(setters: Setters, t: Degrees, highest: Degrees) -> SetterHea
     ensures figure { (f : Firing) → f.setters ≡ setters_of setters → f.ambient ≡ t.0 → Figure joule setters_heat_most result.q3.0 (q3 f paper) }
     ensures figure_2 { (f : Firing) → f.setters ≡ setters_of setters → f.ware.highest ≡ highest.0 → Figure joule setters_heat_most result.x5.0 (x5 f paper) }
 {
-    let lines = setters.lines;
     let count = held(setters.count.0, SetterCount::GREATEST);
-    let heats = all_heats(&lines[..count], (t, highest));
+    let heats = all_heats(&setters.lines[..count], (t, highest));
     SetterHeats {
         q3: heats.brought,
         x5: heats.taken,
@@ -127,9 +126,8 @@ pub fn part_heats(parts: Parts, t: Degrees) -> PartHeats
     ensures figure { (f : Firing) → f.parts ≡ parts_of parts → f.ambient ≡ t.0 → Figure joule parts_heat_most result.q8.0 (q8 f paper) }
     ensures figure_2 { (f : Firing) → f.parts ≡ parts_of parts → f.ambient ≡ t.0 → Figure joule parts_heat_most result.x10.0 (x10 f paper) }
 {
-    let lines = parts.lines;
     let count = held(parts.count.0, PartCount::GREATEST);
-    let heats = all_heats(&lines[..count], t);
+    let heats = all_heats(&parts.lines[..count], t);
     PartHeats {
         q8: heats.brought,
         x10: heats.taken,
