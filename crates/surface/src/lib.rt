@@ -34,7 +34,7 @@ pub struct Flux(pub i64);
 pub struct Fourth(pub i64);
 
 // A of formula 25 in 0.01, by place.
-const FACTOR: [u64; 4] = [0, 326, 256, 210];
+static FACTOR: [u64; 4] = [0, 326, 256, 210];
 
 // The fourth root of a rise in 1e-8: the square root cut down, and the square root of that cut down.
 fn fourth_root(rise: u64) -> u64
