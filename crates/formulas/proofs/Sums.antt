@@ -8,7 +8,6 @@ use native.Mathlib.Omega.{arith}
 use lib.Dec.{T, ltb, ltb→lt}
 use lib.IntN.{ℤ, pos, nat_abs, ◌+ℤ◌}
 use lib.ListN.{length, get_or, take}
-use lib.Seq.{take_all}
 use mir.Syntax.{Width}
 use mir.Val.{SFits, hbits}
 use Rattle.arith.proofs.Ring.{v, #, ◌⊗◌, ring}
@@ -66,13 +65,6 @@ pub summed : {A B : Type 0} (f : B → ℤ) (g : A → B) (l : List A) (d : A) {
 summed f g l d {k} {most} {i} {m} {n} h p q =
     subst (λ (x : ℤ). Running k most (i + 1) (m +ℤ n) x) (sym (ap (first f g l) (add-one i) ∙ next f g l i d h)) (more p q)
 
--- the loop's end: all lines of the block
-pub blocked : {A B : Type 0} (f : B → ℤ) (g : A → B) (l : List A) (n most : ℕ) {k B₁ i : ℕ} {m : ℤ} → length l ≡ most → i ≡ min n most →
-    Running k B₁ i m (first f g l i) → Figure k (most * B₁) m (sum f (map g (take n l)))
-blocked {A} f g l n most {k} {B₁} {i} {m} long e p =
-    let h : i ≤ most = omega arith in
-    subst (λ (r : List A). Figure k (most * B₁) m (sum f (map g r))) (ap (λ (j : ℕ). take j l) e ∙ held l n long) (at_most most h p)
-
 -- two figures of each line, summed in one loop: m and n units over the first i lines
 pub record Both {A B : Type 0} (f g : B → ℤ) (shown : A → B) (l : List A) (unit most₁ most₂ i : ℕ) (m n : ℤ) : Type 0 where
   pub one : Running unit most₁ i m (first f shown l i)
@@ -87,15 +79,3 @@ module _ {A B : Type 0} {f g : B → ℤ} {shown : A → B} {l : List A} {unit m
       Figure unit most₁ a (f (shown (get_or l i d))) → Figure unit most₂ b (g (shown (get_or l i d))) →
       x ≡ m +ℤ a → y ≡ n +ℤ b → Both f g shown l unit most₁ most₂ (i + 1) x y
   again d h p q₁ q₂ e₁ e₂ = rw (e₁, e₂) (record { one = summed f shown l d h p.one q₁; two = summed g shown l d h p.two q₂ })
-
-  pub ended : (count most : ℕ) {i : ℕ} {m n : ℤ} → length l ≡ most → i ≡ min count most → Both f g shown l unit most₁ most₂ i m n →
-      Figure unit (most * most₁) m (sum f (map shown (take count l))) × Figure unit (most * most₂) n (sum g (map shown (take count l)))
-  ended count most long e p = (blocked f shown l count most long e p.one, blocked g shown l count most long e p.two)
-
-  -- the end of a loop over what is lent
-  pub ended_of : (most : ℕ) {i : ℕ} {m n : ℤ} → length l ≤ most → i ≡ length l → Both f g shown l unit most₁ most₂ i m n →
-      Figure unit (most * most₁) m (sum f (map shown l)) × Figure unit (most * most₂) n (sum g (map shown l))
-  ended_of most {i} long e p =
-      let all : take i l ≡ l = take_all i l (omega arith) in
-      let few : i ≤ most = omega arith in
-      (rw all at (at_most most few p.one), rw all at (at_most most few p.two))
