@@ -222,8 +222,8 @@ fn side_by_side(rises: [[u64; SIDE]; GROUPS], count: usize) -> [[Noted; SIDE]; G
 {
     let full = held((count + SIDE / 2) / SIDE, GROUPS);
     let mut groups = [[Noted::new(0, 0); SIDE]; GROUPS];
-    for g in 0..full {
-        groups[g] = noted_down(rises[g]);
+    for (g, some) in rises[..full].iter().enumerate() {
+        groups[g] = noted_down(*some);
     }
     groups
 }
