@@ -205,10 +205,8 @@ fn gathered(
     requires { (rows ≤ sections_most) × (columns ≤ stages_most) × ((i j : ℕ) → i < rows → j < columns → ReadingIn (cell readings i j)) }
 {
     let mut rises = [[0; SIDE]; GROUPS];
-    for i in 0..rows {
-        let row = readings[i];
-        for j in 0..columns {
-            let reading = row.stages[j];
+    for (i, row) in readings[..rows].iter().enumerate() {
+        for (j, reading) in row.stages[..columns].iter().enumerate() {
             let at = turn(i, j, columns);
             rises[at / SIDE][at % SIDE] = arith::magnitude(reading.surface.above(reading.air).0);
         }
@@ -244,6 +242,7 @@ pub fn x9(
     let groups = side_by_side(gathered(readings, rows, columns), rows * columns);
     let noted = groups.as_slice().as_flattened();
     let mut sum = Joules(0);
+    // By index: what belongs to a cell lies in four arrays, its reading, its section, its stage and what is noted of it.
     for i in 0..rows {
         let row = readings[i];
         for j in 0..columns {
