@@ -164,7 +164,7 @@ fn burning_with(sum: Burning, kind: Kind, share: Share) -> Burning
     }
 }
 
-// The burning of a sheet's fuel.
+// The burning of a sheet's fuel. Not one function with `warmth_of`, which sums other columns into another type: only the line of the loop is the same.
 pub fn burning_of(gas: [Share; GASES]) -> Burning
     requires { GasIn (gas_of gas) }
     ensures { Burns (gas_of gas) result }

@@ -21,7 +21,7 @@ use surface::x9;
 // How many heats a balance has.
 pub const HEATS: usize = 17;
 
-// Where in a balance the heat of the fuel lies, which an efficiency is a share of.
+// Where in a balance the heat of the fuel lies, which an efficiency is a share of. Places and no kinds: `balance` promises its heats by place (`Balanced`).
 pub const Q1: usize = 0;
 
 // Where the useful heat lies.
