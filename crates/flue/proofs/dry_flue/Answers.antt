@@ -1,4 +1,4 @@
--- The exact volume is the formula's, and `units` rounds it. Assumes nothing.
+-- The exact volume is the formula's, and `units` rounds it.
 use mathlib.Core.Path.{refl}
 use mathlib.Core.List.{List, [], ◌∷◌}
 use Prim.Native.Nat.{◌^◌}
@@ -13,8 +13,7 @@ use Rattle.formulas.specs.Formulas.{Burning, dry_flue}
 use Rattle.flue.specs.Steps.{BurnsIn}
 use Rattle.formulas.proofs.Units.{exactly}
 use Rattle.formulas.proofs.Sizes.{limits, within, fit, rounded}
-use Rattle.flue.proofs.dry_flue.Statement.{statement}
-use Rattle.flue.proofs.dry_flue.Tie as tie
+use Rattle.flue.proofs.dry_flue.Goals as goal
 
 abbrev known : {b : Burning} {s : Stage} → BurnsIn b s → List Known
 known p = limits p.stage.gas ∷ limits p.stage.excess ∷ within p.burning.dry ∷ within p.burning.air ∷ []
@@ -25,24 +24,17 @@ aired = (raw 1 ⟨-⟩ num (pos 210)) ⟨*⟩ raw 3
 abbrev each : Mx
 each = raw 2 ⟨+⟩ aired
 
-dry-rate-requires : tie.Need-dry_rate-requires
-dry-rate-requires c κs =
+pub dry_rate-requires : goal.dry_rate-requires
+dry_rate-requires c =
     let ks = known c.requires in
     record { more = fit ks (raw 1 ⟨-⟩ num (pos 210)) tt; aired = fit ks aired tt; all = fit ks each tt }
 
-dry-exact-requires : tie.Need-dry_exact-requires
-dry-exact-requires c κs = rw c.dry_rate.ensures (fit (known c.requires) (raw 0 ⟨*⟩ each) tt)
+pub dry_exact-requires : goal.dry_exact-requires
+dry_exact-requires c = rw c.dry_rate.ensures (fit (known c.requires) (raw 0 ⟨*⟩ each) tt)
 
-units-requires : tie.Need-units-requires
-units-requires c κs = rw c.dry_exact.ensures (search rules)
-
-returns : tie.Need-returns
+pub returns : goal.returns
 unfolding dry_flue
-returns told =
-    let c = told.before in
+returns c =
     let fits : SFits w64 c.units.result.0 = search rules in
     rounded (known c.requires) (raw 0 ⟨*⟩ each) (10 ^ 5) 1 tt (exactly refl)
     (rw (to_z-of_z fits, c.units.ensures, c.dry_exact.ensures, c.dry_rate.ensures))
-
-pub dry_flue_spec : {M : Type 1} → statement M
-dry_flue_spec = tie.close (tie.spec dry-rate-requires dry-exact-requires units-requires returns)

@@ -1,4 +1,4 @@
--- The exact rate is the formula's, and `units` rounds it. Assumes nothing.
+-- The exact rate is the formula's, and `units` rounds it.
 use mathlib.Core.Path.{refl}
 use mathlib.Core.List.{List, [], ◌∷◌}
 use Prim.Native.Nat.{◌*◌, ◌^◌}
@@ -13,8 +13,7 @@ use Rattle.formulas.specs.Formulas.{Burning, vapour_rate}
 use Rattle.flue.specs.Steps.{MoistIn}
 use Rattle.formulas.proofs.Units.{exactly}
 use Rattle.formulas.proofs.Sizes.{limits, within, fit, rounded}
-use Rattle.flue.proofs.vapour_rate.Statement.{statement}
-use Rattle.flue.proofs.vapour_rate.Tie as tie
+use Rattle.flue.proofs.vapour_rate.Goals as goal
 
 abbrev known : {b : Burning} {X : ℤ} {s : Stage} → MoistIn b X s → List Known
 known p = limits p.burns.stage.excess ∷ within p.burns.burning.air ∷ limits p.moisture ∷ within p.burns.burning.vapour ∷ []
@@ -25,8 +24,8 @@ moist = num (pos 1293) ⟨*⟩ raw 0 ⟨*⟩ raw 1 ⟨*⟩ raw 2
 abbrev all : Mx
 all = moist ⟨*⟩ num (pos 56) ⟨+⟩ raw 3
 
-rate-exact-requires : tie.Need-rate_exact-requires
-rate-exact-requires c κs =
+pub rate_exact-requires : goal.rate_exact-requires
+rate_exact-requires c =
     let ks = known c.requires in
     record {
       dense = fit ks (num (pos 1293) ⟨*⟩ raw 0) tt;
@@ -36,15 +35,8 @@ rate-exact-requires c κs =
       all = fit ks all tt;
     }
 
-units-requires : tie.Need-units-requires
-units-requires c κs = rw c.rate_exact.ensures (search rules)
-
-returns : tie.Need-returns
+pub returns : goal.returns
 unfolding vapour_rate
-returns told =
-    let c = told.before in
+returns c =
     let fits : SFits w64 c.units.result.0 = search rules in
     rounded (known c.requires) all (56 * 10 ^ 7) 1 tt (exactly refl) (rw (to_z-of_z fits, c.units.ensures, c.rate_exact.ensures))
-
-pub vapour_rate_spec : {M : Type 1} → statement M
-vapour_rate_spec = tie.close (tie.spec rate-exact-requires units-requires returns)
