@@ -1,20 +1,18 @@
--- Formula 14 is in tenths of a joule; `joules` rounds it. Assumes nothing.
+-- Formula 14 is in tenths of a joule; `joules` rounds it.
 use mathlib.Core.List.{[], ◌∷◌}
 use Prim.Native.Nat.{◌/◌}
-use borrow.Author.Rules.{rules}
 use lib.IntN.{pos}
 use Rattle.arith.proofs.Machine.{Mx, raw, num, ◌⟨+⟩◌, ◌⟨-⟩◌, ◌⟨*⟩◌}
 use Rattle.formulas.specs.Formulas.{joule, x2}
 use Rattle.formulas.proofs.Units.{units}
 use Rattle.formulas.proofs.Sizes.{limits, fit, rounded}
-use Rattle.solids.proofs.water.x2.Statement.{statement}
-use Rattle.solids.proofs.water.x2.Tie as tie
+use Rattle.solids.proofs.water.x2.Goals as goal
 
 -- 2490 + 1.93 (flue − t)
 abbrev bracket : Mx
 bracket = num (pos 2490000) ⟨+⟩ num (pos 193) ⟨*⟩ (raw 2 ⟨-⟩ raw 3)
 
-returns : tie.Need-returns
+pub returns : goal.returns
 unfolding x2
 returns c =
     let p = c.requires in
@@ -23,16 +21,8 @@ returns c =
     rw (e₁, e₂) (rounded ks ((raw 0 ⟨+⟩ raw 1) ⟨*⟩ bracket) 10 (joule / 10) tt units
     (rw (c.joules.ensures, c.steam.ensures, c.above.ensures, c.degrees.ensures)))
 
-degrees-requires : tie.Need-degrees-requires
-degrees-requires c κs = search rules
-
-above-requires : tie.Need-above-requires
-above-requires c κs =
-    let p = c.requires in
-    rw c.degrees.ensures (fit (limits p.water.flue ∷ limits p.ambient ∷ []) (raw 0 ⟨-⟩ raw 1) tt)
-
-steam-requires : tie.Need-steam-requires
-steam-requires c κs =
+pub steam-requires : goal.steam-requires
+steam-requires c =
     let p = c.requires in
     let ks = limits p.water.adsorbed ∷ limits p.water.crystal ∷ limits p.water.flue ∷ limits p.ambient ∷ [] in
     rw (c.above.ensures, c.degrees.ensures)
@@ -42,9 +32,3 @@ steam-requires c κs =
       bracket = fit ks bracket tt;
       all = fit ks ((raw 0 ⟨+⟩ raw 1) ⟨*⟩ bracket) tt;
     })
-
-joules-requires : tie.Need-joules-requires
-joules-requires c κs = rw c.steam.ensures (search rules)
-
-pub x2_spec : {M : Type 1} → statement M
-x2_spec = tie.close (tie.spec degrees-requires above-requires steam-requires joules-requires returns)

@@ -1,8 +1,6 @@
--- Formula 33 is in tenths of a joule; `joules` rounds it. Assumes nothing.
+-- Formula 33 is in tenths of a joule; `joules` rounds it.
 use mathlib.Core.List.{[], ◌∷◌}
 use Prim.Native.Nat.{ℕ, ◌/◌, ◌≤◌}
-use borrow.Author.Rules.{rules}
-use lib.Dec.{lit≤}
 use lib.IntN.{ℤ, pos}
 use Rattle.arith.proofs.Machine.{Mx, upto, raw, num, ◌⟨+⟩◌, ◌⟨-⟩◌, ◌⟨*⟩◌}
 use Rattle.sheet.specs.Quantities.{temperature}
@@ -11,8 +9,7 @@ use Rattle.solids.specs.Steps.{BoiledFits}
 use Rattle.formulas.specs.Formulas.{joule, water_heat}
 use Rattle.formulas.proofs.Units.{units}
 use Rattle.formulas.proofs.Sizes.{limits, fit, rounded}
-use Rattle.solids.proofs.water.water_heat.Statement.{statement}
-use Rattle.solids.proofs.water.water_heat.Tie as tie
+use Rattle.solids.proofs.water.water_heat.Goals as goal
 
 -- (33), with the ware's temperature as variable i
 abbrev boil : ℕ → ℕ → Mx
@@ -29,14 +26,8 @@ boiled-fits Δ k h =
       all = fit ks ((num (pos 1000) ⟨-⟩ raw 0) ⟨*⟩ num (pos 418) ⟨+⟩ (num (pos 2260000) ⟨+⟩ raw 1 ⟨*⟩ num (pos 1930))) tt;
     }
 
-boiled-requires : tie.Need-boiled-requires
-boiled-requires c κs = boiled-fits 25 (lit≤ tt) c.requires.entry
-
-boiled-requires-2 : tie.Need-boiled-requires-2
-boiled-requires-2 c κs = boiled-fits 450 (lit≤ tt) c.requires.entry
-
-two-waters-requires : tie.Need-two_waters-requires
-two-waters-requires c κs =
+pub two_waters-requires : goal.two_waters-requires
+two_waters-requires c =
     let p = c.requires in
     let ks = limits p.water.adsorbed ∷ limits p.water.crystal ∷ limits p.entry ∷ [] in
     rw (c.boiled.ensures, c.boiled-2.ensures)
@@ -46,10 +37,7 @@ two-waters-requires c κs =
       all = fit ks (raw 0 ⟨*⟩ boil 2 25 ⟨+⟩ raw 1 ⟨*⟩ boil 2 450) tt;
     })
 
-joules-requires : tie.Need-joules-requires
-joules-requires c κs = rw c.two_waters.ensures (search rules)
-
-returns : tie.Need-returns
+pub returns : goal.returns
 unfolding water_heat
 returns c =
     let p = c.requires in
@@ -57,6 +45,3 @@ returns c =
     λ f e₁ e₂.
     rw (e₁, e₂) (rounded ks (raw 0 ⟨*⟩ boil 2 25 ⟨+⟩ raw 1 ⟨*⟩ boil 2 450) 10 (joule / 10) tt units
     (rw (c.joules.ensures, c.two_waters.ensures, c.boiled-2.ensures, c.boiled.ensures)))
-
-pub water_heat_spec : {M : Type 1} → statement M
-water_heat_spec = tie.close (tie.spec boiled-requires boiled-requires-2 two-waters-requires joules-requires returns)
