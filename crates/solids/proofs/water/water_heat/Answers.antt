@@ -1,11 +1,8 @@
 -- Formula 33 is in tenths of a joule; `joules` rounds it.
 use mathlib.Core.List.{[], ◌∷◌}
-use Prim.Native.Nat.{ℕ, ◌/◌, ◌≤◌}
-use lib.IntN.{ℤ, pos}
-use Rattle.arith.proofs.Machine.{Mx, upto, raw, num, ◌⟨+⟩◌, ◌⟨-⟩◌, ◌⟨*⟩◌}
-use Rattle.sheet.specs.Quantities.{temperature}
-use Rattle.document.specs.Lawful.{In}
-use Rattle.solids.specs.Steps.{BoiledFits}
+use Prim.Native.Nat.{ℕ, ◌/◌}
+use lib.IntN.{pos}
+use Rattle.arith.proofs.Machine.{Mx, raw, num, ◌⟨+⟩◌, ◌⟨-⟩◌, ◌⟨*⟩◌}
 use Rattle.formulas.specs.Formulas.{joule, water_heat}
 use Rattle.formulas.proofs.Units.{units}
 use Rattle.formulas.proofs.Sizes.{limits, fit, rounded}
@@ -14,17 +11,6 @@ use Rattle.solids.proofs.water.water_heat.Goals as goal
 -- (33), with the ware's temperature as variable i
 abbrev boil : ℕ → ℕ → Mx
 boil i Δ = (num (pos 1000) ⟨-⟩ raw i) ⟨*⟩ num (pos 418) ⟨+⟩ (num (pos 2260000) ⟨+⟩ num (pos Δ) ⟨*⟩ num (pos 1930))
-
-boiled-fits : {T : ℤ} (Δ : ℕ) → Δ ≤ 450 → In temperature T → BoiledFits T (pos Δ)
-boiled-fits Δ k h =
-    let ks = limits h ∷ upto k ∷ [] in
-    record {
-      below = fit ks (num (pos 1000) ⟨-⟩ raw 0) tt;
-      water = fit ks ((num (pos 1000) ⟨-⟩ raw 0) ⟨*⟩ num (pos 418)) tt;
-      on = fit ks (raw 1 ⟨*⟩ num (pos 1930)) tt;
-      steam = fit ks (num (pos 2260000) ⟨+⟩ raw 1 ⟨*⟩ num (pos 1930)) tt;
-      all = fit ks ((num (pos 1000) ⟨-⟩ raw 0) ⟨*⟩ num (pos 418) ⟨+⟩ (num (pos 2260000) ⟨+⟩ raw 1 ⟨*⟩ num (pos 1930))) tt;
-    }
 
 pub two_waters-requires : goal.two_waters-requires
 two_waters-requires c =
