@@ -5,16 +5,16 @@ use mathlib.Core.Logic.{◌⊎◌, inl, inr}
 use mathlib.Core.Bool.{Bool, true, false, cond}
 use mathlib.Core.List.{[], ◌∷◌}
 use Prim.Native.Nat.{ℕ, zero, suc, ◌+◌, ◌*◌, ◌/◌, ◌%◌, ◌-◌, ◌≤◌, ◌<◌}
-use native.Mathlib.Nat.{le_trans, mul-le-mul_left, mul-le-mul_right, mul-lt-mul_of_pos_left, le_refl, div-add-mod, mod-lt, mul-div-mul_left, mod-eq-sub-mul-div, mul-sub, mul_assoc, mul-pos, zero-lt-suc}
+use native.Mathlib.Nat.{mul-le-mul_left, mul-le-mul_right, mul-lt-mul_of_pos_left, le_refl, div-add-mod, mod-lt, mul-div-mul_left, mod-eq-sub-mul-div, mul-sub, mul_assoc, mul-pos, zero-lt-suc}
 use native.Mathlib.Decide.{dec_le}
 use native.Mathlib.Omega.{arith}
 use borrow.Author.Tests.{ltb-true, ltb-false, lt-ltb, le-ltb}
 use lib.Dec.{ltb, lit<}
-use lib.IntN.{ℤ, pos, negsuc, neg_ℤ, nat_abs, ◌+ℤ◌, ◌-ℤ◌, ◌*ℤ◌, neg_ℤ-neg_ℤ, ℤ_discrete, +ℤ_invr, *ℤ-zero}
+use lib.IntN.{ℤ, pos, negsuc, neg_ℤ, nat_abs, ◌-ℤ◌, ◌*ℤ◌, neg_ℤ-neg_ℤ, ℤ_discrete, +ℤ_invr, *ℤ-zero}
 use lib.Signed.{◌≤ℤ◌}
 use Rattle.arith.specs.Nearest.{tie, settled, nearest_ℕ, nearest}
 use Rattle.arith.proofs.Int.{up, dn, eq↓, le↓}
-use Rattle.arith.proofs.Ring.{v, ◌⊕◌, ◌⊖◌, ◌⊗◌, ⊝, ring}
+use Rattle.arith.proofs.Ring.{v, ◌⊖◌, ◌⊗◌, ⊝, ring}
 use Rattle.arith.proofs.Order.{arithℤ, parts, abs_is, abs_neg, abs-sub, abs-mul, neg_ℤ_anti}
 
 -- ---- all that the laws ask of the rule for ties

@@ -10,11 +10,7 @@ ghost use Rattle.arith.specs.Nearest.{nearest, nearest_ℕ, with_sign};
 pub fn magnitude(z: i64) -> u64
     ensures { result ≡ nat_abs z }
 {
-    if z < 0 {
-        (-(z + 1)) as u64 + 1
-    } else {
-        z as u64
-    }
+    z.unsigned_abs()
 }
 
 // A size divided and brought to the nearest whole number, halves to the even one: one up where what is wanting to the next is less than what

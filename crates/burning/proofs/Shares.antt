@@ -10,7 +10,10 @@ use native.Mathlib.Decide.{dec_le}
 use native.Mathlib.Omega.{arith}
 use lib.Dec.{T, leb, leb→le, le→leb, ltb, ltb→lt}
 use lib.IntN.{ℤ, pos, nat_abs, ◌+ℤ◌, ◌-ℤ◌, ◌*ℤ◌}
-use lib.ListN.{length, get_or, take, get_or-map}
+use lib.Seq.{take_all}
+use mathlib.Core.Logic.{◌⊎◌, inl, inr}
+use Rattle.std.proofs.Common.{length-drop}
+use lib.ListN.{length, get_or, take, drop, get_or-map, length-map}
 use mir.Syntax.{w64}
 use mir.Val.{hbits}
 use Rattle.quantity.specs.declared.gas.Share.{Share}
@@ -73,6 +76,29 @@ no_kind = kind (between 0 0) (flow (pos 0) 0 0)
 
 abbrev pub kind_at : ℕ → Kind
 kind_at i = get_or kinds i no_kind
+
+-- ---- both columns side by side: what is left of the gases and of the shares after the first i of them
+pub record Left (l : List Share) (ks : List Kind) (ss : List Share) (i : ℕ) : Type 0 where
+  pub gases-left : ks ≡ drop i kinds
+  pub shares-left : ss ≡ drop i l
+
+lies_at : {A : Type 0} (l : List A) (i : ℕ) (d x : A) (r : List A) → drop i l ≡ x ∷ r → (i < length l) × (get_or l i d ≡ x) × (r ≡ drop (suc i) l)
+lies_at [] zero d x r e = cc
+lies_at [] (suc i) d x r e = cc
+lies_at (a ∷ l) zero d x r e = let f : a ≡ x = cc in let g : r ≡ l = cc in (omega arith, f, g)
+lies_at (a ∷ l) (suc i) d x r e = let p = lies_at l i d x r e in (omega (arith, p.0), p.1, p.2)
+
+pub turned : (l : List Share) (i : ℕ) {ks ks' : List Kind} {ss ss' : List Share} {k : Kind} {s : Share} → Left l ks ss i → ks ≡ k ∷ ks' → ss ≡ s ∷ ss'
+    → (i < gases) × (kind_at i ≡ k) × (get_or l i none ≡ s) × Left l ks' ss' (i + 1)
+turned l i h e f =
+    let p = lies_at kinds i no_kind _ _ (sym h.gases-left ∙ e) in
+    let q = lies_at l i none _ _ (sym h.shares-left ∙ f) in
+    (p.0, p.1, q.1, record { gases-left = rw (add-one i) p.2; shares-left = rw (add-one i) q.2 })
+
+-- no gas is left, or no share
+pub all-turned : (l : List Share) (i : ℕ) {ks : List Kind} {ss : List Share} → length l ≡ gases → Left l ks ss i → (length ks ≡ 0) ⊎ (length ss ≡ 0) → gases ≤ i
+all-turned l i long h (inl e) = omega (arith, length-drop i kinds, ap length h.gases-left, e)
+all-turned l i long h (inr e) = omega (arith, length-drop i l, ap length h.shares-left, e)
 
 -- ---- the formulas as columns
 -- the sum of a column, over the shares as variables
@@ -180,6 +206,11 @@ module _ (W : ℕ) where
 -- ---- a column of the table, summed over the first gases
 abbrev pub so_far : (Kind → ℤ) → List Share → ℕ → ℤ
 so_far f l i = weigh (take i (map f kinds)) (shares (gas l))
+
+pub so_far-all : (f : Kind → ℤ) (l : List Share) (i : ℕ) → gases ≤ i → so_far f l i ≡ so_far f l gases
+so_far-all f l i h =
+    let long : length (map f kinds) ≤ i = omega (arith, length-map kinds f) in
+    ap (λ (ws : List ℤ). weigh ws (shares (gas l))) (take_all i (map f kinds) long)
 
 module _ (f : Kind → ℤ) (z : f no_kind ≡ pos 0) (l : List Share) (i : ℕ) (h : i < gases) where
   weight-at : get_or (map f kinds) i (pos 0) ≡ f (kind_at i)

@@ -33,7 +33,7 @@ pub struct Kind {
 }
 
 // The gases in the gas line's order.
-const TABLE_A1: [Kind; GASES] = [
+static TABLE_A1: [Kind; GASES] = [
     Kind {
         cold: 1275,
         hot: 1287,
@@ -144,12 +144,9 @@ pub fn warmth_of(gas: [Share; GASES]) -> Warmth
     requires { GasIn (gas_of gas) }
     ensures { Warmed (gas_of gas) result }
 {
-    // So written for the compiler: docs/DECISIONS.md, "A constant array is bound before a loop".
-    let kinds = TABLE_A1;
     let mut sum = Warmth { cold: 0, rise: 0 };
-    for i in 0..GASES {
-        let kind = kinds[i];
-        sum = warmth_with(sum, kind, gas[i]);
+    for (kind, share) in TABLE_A1.iter().zip(&gas) {
+        sum = warmth_with(sum, *kind, *share);
     }
     sum
 }
@@ -167,21 +164,18 @@ fn burning_with(sum: Burning, kind: Kind, share: Share) -> Burning
     }
 }
 
-// The burning of a sheet's fuel.
+// The burning of a sheet's fuel. Not one function with `warmth_of`, which sums other columns into another type: only the line of the loop is the same.
 pub fn burning_of(gas: [Share; GASES]) -> Burning
     requires { GasIn (gas_of gas) }
     ensures { Burns (gas_of gas) result }
 {
-    // So written for the compiler: docs/DECISIONS.md, "A constant array is bound before a loop".
-    let kinds = TABLE_A1;
     let mut sum = Burning {
         air: 0,
         dry: 0,
         vapour: 0,
     };
-    for i in 0..GASES {
-        let kind = kinds[i];
-        sum = burning_with(sum, kind, gas[i]);
+    for (kind, share) in TABLE_A1.iter().zip(&gas) {
+        sum = burning_with(sum, *kind, *share);
     }
     sum
 }

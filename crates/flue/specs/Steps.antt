@@ -1,5 +1,5 @@
 -- What each formula's code asks: that no step of it leaves an i64, or the ranges from which that follows.
-use Rattle.std.specs.Prelude.{ℕ, ◌+◌, ◌*◌, ◌/◌, ◌%◌, ◌^◌, ◌-◌, ◌≤◌, List, ℤ, pos, nat_abs, ◌+ℤ◌, ◌-ℤ◌, ◌*ℤ◌, get_or}
+use Rattle.std.specs.Prelude.{ℕ, ◌^◌, List, ℤ, pos, nat_abs, ◌+ℤ◌, ◌-ℤ◌, ◌*ℤ◌}
 use Rattle.std.specs.Int.{w64}
 use Rattle.std.proofs.Common.{SFits}
 use Rattle.sheet.specs.Firing.{Stage}
@@ -25,20 +25,13 @@ pub record RateFits (excess air X vapour : ℤ) : Type 0 where
   pub over : SFits w64 (pos 1293 *ℤ excess *ℤ air *ℤ X *ℤ pos 56)
   pub all : SFits w64 (pos 1293 *ℤ excess *ℤ air *ℤ X *ℤ pos 56 +ℤ vapour)
 
--- a column of table A.1 as the code has it, and c between two of its rows
+-- the hottest flue that is analysed
 abbrev pub hottest : ℕ
 hottest = nat_abs analysed_flue.greatest
 
 -- the greatest entry of the table, CO2's in its last row
 abbrev pub entry_most : ℕ
 entry_most = (flue_row 10).co2
-
-abbrev pub straight : List ℕ → ℕ → ℕ
-straight column T = get_or column (T / 1000) 0 * (1000 - T % 1000) + get_or column (T / 1000 + 1) 0 * (T % 1000)
-
-pub record ColumnIn (column : List ℕ) (T : ℕ) : Type 0 where
-  pub entries : Every (λ x. x ≤ entry_most) column
-  pub hot : T ≤ hottest
 
 -- a stage that burns a fuel
 pub record BurnsIn (b : Burning) (s : Stage) : Type 0 where

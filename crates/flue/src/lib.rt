@@ -1,7 +1,7 @@
 // The heat that leaves with the flue gas, stage by stage.
 #![tactic(auto)]
 
-ghost use Rattle.std.specs.Prelude.{◌≡◌, ◌+◌, ◌*◌, ◌^◌, ◌≤◌, ℤ, pos, ◌+ℤ◌, ◌-ℤ◌, ◌*ℤ◌};
+ghost use Rattle.std.specs.Prelude.{◌≡◌, ◌+◌, ◌*◌, ◌%◌, ◌-◌, ◌^◌, ◌≤◌, ℤ, pos, ◌+ℤ◌, ◌-ℤ◌, ◌*ℤ◌};
 ghost use Rattle.std.specs.Int.{w64};
 ghost use Rattle.std.proofs.Common.{SFits};
 ghost use Rattle.sheet.specs.Shown.{stage as stage_of};
@@ -16,7 +16,7 @@ ghost use Rattle.formulas.specs.Sizes.{vapour_rate_most, vapour_mass_most, dry_h
 ghost use Rattle.formulas.specs.Sizes.{x7_most, x8_most};
 ghost use Rattle.formulas.specs.Steps.{ProductFits, over};
 ghost use Rattle.burning.specs.Mixture.{burning as burningOf};
-ghost use Rattle.flue.specs.Steps.{hottest, straight, ColumnIn, DryFits, RateFits, BurnsIn, Volume, FilledIn, DryIn, MoistIn, FlueIn, AllFlueIn};
+ghost use Rattle.flue.specs.Steps.{hottest, entry_most, DryFits, RateFits, BurnsIn, Volume, FilledIn, DryIn, MoistIn, FlueIn, AllFlueIn};
 
 use burning::mixture::Burning;
 use formulas::rounding::Quotient;
@@ -114,35 +114,99 @@ fn vapour(burning: Burning, moisture: Moisture, stage: Stage) -> VapourMass
     )
 }
 
-// How many rows of table A.1 a flue can be between: each has one above it, and the last, at 1,000 °C, a row of 0 that counts for nothing.
-const FLUE_ROWS: usize = 12;
+// A row of table A.1 of the gases of dry flue: c of each in 0.001 kJ/(m³·°C).
+#[derive(Clone, Copy)]
+struct FlueRow {
+    co: u64,
+    co2: u64,
+    o2: u64,
+    n2: u64,
+}
 
-// Table A.1 of the gases of dry flue: c at 0, 100, .. 1,000 °C, in 0.001 kJ/(m³·°C).
-const MONOXIDE: [u64; FLUE_ROWS] = [
-    1300, 1301, 1308, 1317, 1329, 1342, 1359, 1372, 1388, 1400, 1413, 0,
+// The rows at 0, 100, .. 1,000 °C. A flue is between a row and the next, so the last has a row of 0 behind it that counts for nothing.
+static FLUE_TABLE: [FlueRow; 12] = [
+    FlueRow {
+        co: 1300,
+        co2: 1597,
+        o2: 1304,
+        n2: 1296,
+    },
+    FlueRow {
+        co: 1301,
+        co2: 1697,
+        o2: 1317,
+        n2: 1300,
+    },
+    FlueRow {
+        co: 1308,
+        co2: 1793,
+        o2: 1333,
+        n2: 1301,
+    },
+    FlueRow {
+        co: 1317,
+        co2: 1877,
+        o2: 1354,
+        n2: 1304,
+    },
+    FlueRow {
+        co: 1329,
+        co2: 1923,
+        o2: 1375,
+        n2: 1317,
+    },
+    FlueRow {
+        co: 1342,
+        co2: 1998,
+        o2: 1396,
+        n2: 1325,
+    },
+    FlueRow {
+        co: 1359,
+        co2: 2052,
+        o2: 1414,
+        n2: 1338,
+    },
+    FlueRow {
+        co: 1372,
+        co2: 2098,
+        o2: 1434,
+        n2: 1354,
+    },
+    FlueRow {
+        co: 1388,
+        co2: 2140,
+        o2: 1450,
+        n2: 1367,
+    },
+    FlueRow {
+        co: 1400,
+        co2: 2178,
+        o2: 1463,
+        n2: 1379,
+    },
+    FlueRow {
+        co: 1413,
+        co2: 2215,
+        o2: 1476,
+        n2: 1392,
+    },
+    FlueRow {
+        co: 0,
+        co2: 0,
+        o2: 0,
+        n2: 0,
+    },
 ];
 
-const DIOXIDE: [u64; FLUE_ROWS] = [
-    1597, 1697, 1793, 1877, 1923, 1998, 2052, 2098, 2140, 2178, 2215, 0,
-];
-
-const OXYGEN: [u64; FLUE_ROWS] = [
-    1304, 1317, 1333, 1354, 1375, 1396, 1414, 1434, 1450, 1463, 1476, 0,
-];
-
-const NITROGEN: [u64; FLUE_ROWS] = [
-    1296, 1300, 1301, 1304, 1317, 1325, 1338, 1354, 1367, 1379, 1392, 0,
-];
-
-// c of a gas at a temperature, straight between two rows of its column: in 1e-6 kJ/(m³·°C).
-fn column_at(column: [u64; FLUE_ROWS], t: u64) -> u64
-    requires { ColumnIn column t }
-    ensures { result ≡ straight column t }
+// c of a gas at a temperature, straight between the rows before and behind it: in 1e-6 kJ/(m³·°C).
+fn between(before: u64, behind: u64, t: u64) -> u64
+    requires { (before ≤ entry_most) × (behind ≤ entry_most) }
+    ensures { result ≡ before * (1000 - t % 1000) + behind * (t % 1000) }
 {
-    let row = (t / 1000) as usize;
     let above = t % 1000;
     let below = 1000 - above;
-    column[row] * below + column[row + 1] * above
+    before * below + behind * above
 }
 
 // Formula 4 over four gases: nitrogen is the rest. In 1e-10 kJ/(m³·°C).
@@ -151,10 +215,13 @@ fn analysed_heat(co: u64, pair: u64, oxygen: u64, t: u64) -> u64
     ensures { result ≡ analysed_heat co pair oxygen t }
 {
     let rest = 10_000 - (co + pair + oxygen);
-    co * column_at(MONOXIDE, t)
-        + pair * column_at(DIOXIDE, t)
-        + oxygen * column_at(OXYGEN, t)
-        + rest * column_at(NITROGEN, t)
+    let row = (t / 1000) as usize;
+    let before = FLUE_TABLE[row];
+    let behind = FLUE_TABLE[row + 1];
+    co * between(before.co, behind.co, t)
+        + pair * between(before.co2, behind.co2, t)
+        + oxygen * between(before.o2, behind.o2, t)
+        + rest * between(before.n2, behind.n2, t)
 }
 
 // c of a stage's dry flue: 1.384, or by what an analyser says of it.
@@ -253,15 +320,14 @@ pub fn flue_heats(burning: Burning, moisture: Moisture, stages: Stages, t: Degre
     ensures figure { Figure joule x7_most result.x7.0 (sum (flue_heat paper (burningOf burning) moisture.0 t.0) (stages_of stages)) }
     ensures figure_2 { Figure joule x8_most result.x8.0 (sum (monoxide_heat paper (burningOf burning)) (stages_of stages)) }
 {
-    let lines = stages.lines;
     let count = held(stages.count.0, StageCount::GREATEST);
     let mut x7 = Joules(0);
     let mut x8 = Joules(0);
     // So written for the compiler: docs/DECISIONS.md, "Two heats in one loop".
-    for i in 0..count {
-        let stage = stage_heats(burning, moisture, lines[i], t);
-        x7 = x7.plus(stage.x7);
-        x8 = x8.plus(stage.x8);
+    for stage in &stages.lines[..count] {
+        let heats = stage_heats(burning, moisture, *stage, t);
+        x7 = x7.plus(heats.x7);
+        x8 = x8.plus(heats.x8);
     }
     FlueHeats { x7, x8 }
 }

@@ -25,6 +25,16 @@ each P g (a ∷ l) zero i d p h k = absurd (not-suc-le-zero h)
 each P g (a ∷ l) (suc n) zero d p h k = p.0
 each P g (a ∷ l) (suc n) (suc i) d p h k = each P g l n i d p.1 (le_of_suc-le-suc h) (le_of_suc-le-suc k)
 
+-- what holds of each line that is lent
+pub each_of : {A B : Type 0} (P : B → Type 0) (g : A → B) (l : List A) (i : ℕ) (d : A) → Every P (map g l) → i < length l → P (g (get_or l i d))
+each_of P g [] i d p h = absurd (not-suc-le-zero h)
+each_of P g (a ∷ l) zero d p h = p.0
+each_of P g (a ∷ l) (suc i) d p h = each_of P g l i d p.1 (le_of_suc-le-suc h)
+
+-- as many lines as are held are lent
+pub lent : {A : Type 0} (l : List A) (n : ℕ) {m most : ℕ} → length l ≡ most → m ≡ min n most → take m l ≡ take n l
+lent l n long e = rw e (held l n long)
+
 -- n units, of i figures of at most `most` units each
 pub record Running (unit most i : ℕ) (n x : ℤ) : Type 0 where
   pub is : Is unit n x
@@ -55,13 +65,6 @@ pub summed : {A B : Type 0} (f : B → ℤ) (g : A → B) (l : List A) (d : A) {
 summed f g l d {k} {most} {i} {m} {n} h p q =
     subst (λ (x : ℤ). Running k most (i + 1) (m +ℤ n) x) (sym (ap (first f g l) (add-one i) ∙ next f g l i d h)) (more p q)
 
--- the loop's end: all lines of the block
-pub blocked : {A B : Type 0} (f : B → ℤ) (g : A → B) (l : List A) (n most : ℕ) {k B₁ i : ℕ} {m : ℤ} → length l ≡ most → i ≡ min n most →
-    Running k B₁ i m (first f g l i) → Figure k (most * B₁) m (sum f (map g (take n l)))
-blocked {A} f g l n most {k} {B₁} {i} {m} long e p =
-    let h : i ≤ most = omega arith in
-    subst (λ (r : List A). Figure k (most * B₁) m (sum f (map g r))) (ap (λ (j : ℕ). take j l) e ∙ held l n long) (at_most most h p)
-
 -- two figures of each line, summed in one loop: m and n units over the first i lines
 pub record Both {A B : Type 0} (f g : B → ℤ) (shown : A → B) (l : List A) (unit most₁ most₂ i : ℕ) (m n : ℤ) : Type 0 where
   pub one : Running unit most₁ i m (first f shown l i)
@@ -76,7 +79,3 @@ module _ {A B : Type 0} {f g : B → ℤ} {shown : A → B} {l : List A} {unit m
       Figure unit most₁ a (f (shown (get_or l i d))) → Figure unit most₂ b (g (shown (get_or l i d))) →
       x ≡ m +ℤ a → y ≡ n +ℤ b → Both f g shown l unit most₁ most₂ (i + 1) x y
   again d h p q₁ q₂ e₁ e₂ = rw (e₁, e₂) (record { one = summed f shown l d h p.one q₁; two = summed g shown l d h p.two q₂ })
-
-  pub ended : (count most : ℕ) {i : ℕ} {m n : ℤ} → length l ≡ most → i ≡ min count most → Both f g shown l unit most₁ most₂ i m n →
-      Figure unit (most * most₁) m (sum f (map shown (take count l))) × Figure unit (most * most₂) n (sum g (map shown (take count l)))
-  ended count most long e p = (blocked f shown l count most long e p.one, blocked g shown l count most long e p.two)

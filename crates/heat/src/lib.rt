@@ -1,11 +1,10 @@
 // The balance of a firing, from a sheet to joules.
 #![tactic(auto)]
 
-ghost use Rattle.std.specs.Prelude.{◌≡◌, ◌+ℤ◌};
+ghost use Rattle.std.specs.Prelude.{◌≡◌};
 ghost use Rattle.sheet.specs.Firing.{Firing};
 ghost use Rattle.formulas.specs.Formulas.{q1, q2};
 ghost use Rattle.formulas.specs.Sizes.{q1_most, q2_most};
-ghost use Rattle.heat.specs.Steps.{ThreeFits, FiveFits};
 ghost use Rattle.heat.specs.Balance.{Kept, Heat, Heated, Balanced};
 
 use burning::mixture::{burning_of, warmth_of};
@@ -22,7 +21,7 @@ use surface::x9;
 // How many heats a balance has.
 pub const HEATS: usize = 17;
 
-// Where in a balance the heat of the fuel lies, which an efficiency is a share of.
+// Where in a balance the heat of the fuel lies, which an efficiency is a share of. Places and no kinds: `balance` promises its heats by place (`Balanced`).
 pub const Q1: usize = 0;
 
 // Where the useful heat lies.
@@ -55,22 +54,6 @@ pub struct Heats {
     pub x9: Joules,
     pub x10: Joules,
     pub water: Joules,
-}
-
-// Three heats together.
-fn three(a: Joules, b: Joules, c: Joules) -> Joules
-    requires { ThreeFits a.0 b.0 c.0 }
-    ensures { result.0 ≡ a.0 +ℤ b.0 +ℤ c.0 }
-{
-    Joules(a.0 + b.0 + c.0)
-}
-
-// Five heats together.
-fn five(a: Joules, b: Joules, c: Joules, d: Joules, e: Joules) -> Joules
-    requires { FiveFits a.0 b.0 c.0 d.0 e.0 }
-    ensures { result.0 ≡ a.0 +ℤ b.0 +ℤ c.0 +ℤ d.0 +ℤ e.0 }
-{
-    Joules(a.0 + b.0 + c.0 + d.0 + e.0)
 }
 
 // What the fuel brings.
@@ -144,11 +127,11 @@ pub fn balance(sheet: Sheet) -> [i64; HEATS]
     ensures { (f : Firing) → Kept sheet f → Balanced f result }
 {
     let h = heats_of(sheet);
-    let income = five(h.q1, h.q2, h.q3, h.q5, h.q8);
-    let solids = five(h.x1, h.x2, h.x3, h.x5, h.x10);
-    let spent = solids.plus(three(h.x7, h.x8, h.x9));
+    let income = h.q1.plus(h.q2).plus(h.q3).plus(h.q5).plus(h.q8);
+    let solids = h.x1.plus(h.x2).plus(h.x3).plus(h.x5);
+    let spent = solids.plus(h.x7).plus(h.x8).plus(h.x9).plus(h.x10);
     let x11 = income.minus(spent);
-    let useful = three(h.water, h.x3, h.x1);
+    let useful = h.water.plus(h.x3).plus(h.x1);
     let withset = useful.plus(h.x5);
     [
         h.q1.0, h.q2.0, h.q3.0, h.q5.0, h.q8.0, income.0, h.x1.0, h.x2.0, h.x3.0, h.x5.0, h.x7.0, h

@@ -51,10 +51,10 @@ short {n} {p} b h k =
 pair-mod : (m j k : ℕ) → m % 2 ^ (j + 2 + k) / 2 ^ k % 4 ≡ m / 2 ^ k % 4
 pair-mod m j k = rw (field m (j + 2) k) (mod-mod-pow (m / 2 ^ k) j 2)
 
-pub half-pair : (n from q : ℕ) → q < 16 → (n / 2 ^ from % 2 ^ 32) / 2 ^ (2 * q) % 4 ≡ n / 2 ^ (from + 2 * q) % 4
-half-pair n from q h =
+pub half-pair : (n half from p q : ℕ) → half ≡ n / 2 ^ from % 2 ^ 32 → from + 2 * q ≡ 2 * p → q < 16 → half / 2 ^ (2 * q) % 4 ≡ n / 2 ^ (2 * p) % 4
+half-pair n half from p q is bits h =
     let e : 30 - 2 * q + 2 + 2 * q ≡ 32 = omega arith in
-    rw (shr-shr n from (2 * q)) at (rw e at (pair-mod (n / 2 ^ from) (30 - 2 * q) (2 * q)))
+    rw (is, ← bits) (rw (shr-shr n from (2 * q)) at (rw e at (pair-mod (n / 2 ^ from) (30 - 2 * q) (2 * q))))
 
 -- no pair is left
 pub all_brought : {n p r rest : ℕ} → p ≤ 0 → Brought n p r rest → r ≡ root n
@@ -65,3 +65,12 @@ pub last_brought : {n r rest s left : ℕ} → Brought n 1 r rest → Stepped (n
 last_brought {n} b t =
     let all = div-add-mod n 4 in
     root-only (record { below = omega (arith, b.all, t.all, all); above = omega (arith, b.all, t.all, t.least, all) }) (root_is n)
+
+-- the digit of a step, by the trial: 1 where it goes, or else 0
+pub digit_one : {root rest pair next left : ℕ} → pair < 4 → rest ≤ 2 * root → root * 4 + 1 ≤ rest * 4 + pair → next ≡ root * 2 + 1
+    → left ≡ rest * 4 + pair - (root * 4 + 1) → Stepped pair root rest next left
+digit_one {root} {rest} {pair} p r t e f = record { all = rw (e, f) (grind arith); least = omega arith }
+
+pub digit_zero : {root rest pair next left : ℕ} → pair < 4 → rest ≤ 2 * root → rest * 4 + pair < root * 4 + 1 → next ≡ root * 2 → left ≡ rest * 4 + pair
+    → Stepped pair root rest next left
+digit_zero {root} {rest} {pair} p r t e f = record { all = rw (e, f) (grind arith); least = omega arith }

@@ -1,5 +1,6 @@
 -- A root that is being worked by pairs of bits, and several side by side.
 use Rattle.std.specs.Prelude.{ℕ, ◌+◌, ◌*◌, ◌/◌, ◌%◌, ◌^◌, ◌≤◌, ◌<◌, ◌≡◌, List, get_or}
+use Rattle.roots.specs.declared.Work.{Work}
 
 -- while the last `pairs` pairs of n are not yet brought down: `root` is the root of the others, `rest` what is left of them
 pub record Brought (n pairs root rest : ℕ) : Type 0 where
@@ -19,21 +20,29 @@ side = 8
 abbrev pub EachBelow : List ℕ → ℕ → Type 0
 EachBelow n pairs = (k : ℕ) → k < side → get_or n k 0 < 2 ^ (2 * pairs)
 
-abbrev pub EachBrought : List ℕ → ℕ → List ℕ → List ℕ → Type 0
-EachBrought n pairs roots rests = (k : ℕ) → k < side → Brought (get_or n k 0) pairs (get_or roots k 0) (get_or rests k 0)
+abbrev pub Narrow : Type 0
+Narrow = Work ℕ
+
+-- where there is no root
+abbrev pub no_work : Narrow
+no_work = record { root = 0; rest = 0 }
+
+abbrev pub EachBrought : List ℕ → ℕ → List Narrow → Type 0
+EachBrought n pairs works = (k : ℕ) → k < side → let w = get_or works k no_work in Brought (get_or n k 0) pairs w.root w.rest
 
 -- roots for which half the bits will do
 pub record Short (root rest : ℕ) : Type 0 where
   pub bits : root < 2 ^ 29
   pub least : rest ≤ 2 * root
 
-abbrev pub EachShort : List ℕ → List ℕ → Type 0
-EachShort roots rests = (k : ℕ) → k < side → Short (get_or roots k 0) (get_or rests k 0)
+abbrev pub EachShort : List Narrow → Type 0
+EachShort works = (k : ℕ) → k < side → let w = get_or works k no_work in Short w.root w.rest
 
 -- the pair of each number that has `pair` pairs behind it
-abbrev pub EachStepped : List ℕ → ℕ → List ℕ → List ℕ → List ℕ → List ℕ → Type 0
-EachStepped half pair roots rests nexts lefts =
-    (k : ℕ) → k < side → Stepped (get_or half k 0 / 2 ^ (2 * pair) % 4) (get_or roots k 0) (get_or rests k 0) (get_or nexts k 0) (get_or lefts k 0)
+abbrev pub EachStepped : List ℕ → ℕ → List Narrow → List Narrow → Type 0
+EachStepped half pair works nexts =
+    (k : ℕ) → k < side → let w = get_or works k no_work in let x = get_or nexts k no_work in
+    Stepped (get_or half k 0 / 2 ^ (2 * pair) % 4) w.root w.rest x.root x.rest
 
 -- 32 bits of each, from the bit `from` on
 abbrev pub EachHalf : List ℕ → ℕ → List ℕ → Type 0

@@ -3,32 +3,66 @@
 
 mod several;
 
-ghost use Rattle.std.specs.Prelude.{◌≡◌, ◌*◌, ◌^◌, ◌≤◌, ◌<◌};
+ghost use Rattle.std.specs.Prelude.{ℕ, ◌≡◌, ◌+◌, ◌*◌, ◌^◌, ◌≤◌, ◌<◌};
 ghost use Rattle.roots.specs.Root.{root};
+ghost use Rattle.roots.specs.Word.{Counts, counts_below};
 ghost use Rattle.roots.specs.Steps.{Stepped};
 
 pub use several::{SIDE, floor_roots};
+use std::ops::{Add, Mul, Sub};
+
+// A word of the machine: it counts as the numbers do that it holds, as long as they are below its bound.
+trait Word: Copy
+    + Drop
+    + From<u8>
+    + PartialOrd
+    + Add<Self, Output = Self>
+    + Sub<Self, Output = Self>
+    + Mul<Self, Output = Self> {
+    ghost value: { Self → ℕ };
+
+    ghost bound: { ℕ };
+
+    ghost counts: { Counts value bound Self.from_gives Self.partial_cmp Self.can_add Self.add_gives Self.can_sub Self.sub_gives Self.can_mul Self.mul_gives };
+}
+
+impl Word for u64 {
+    ghost value = { λ x. x };
+
+    ghost bound = { 2 ^ 64 };
+
+    ghost counts = { counts_below (2 ^ 64) };
+}
+
+// Half the bits: a processor takes twice as many of these at once.
+impl Word for u32 {
+    ghost value = { λ x. x };
+
+    ghost bound = { 2 ^ 32 };
+
+    ghost counts = { counts_below (2 ^ 32) };
+}
 
 // A square root that is being worked: the root of the pairs of bits that are brought down, and what is left of them.
-#[derive(Drop)]
-struct Work {
-    root: u64,
-    rest: u64,
+#[derive(Clone, Copy)]
+struct Work<W> {
+    root: W,
+    rest: W,
 }
 
 // A step on paper (docs/ROOT.md): bring the next pair down to the rest, try the digit 1, and take it away where it goes.
-fn step(work: Work, pair: u64) -> Work
-    requires { (pair < 4) × (work.root < 2 ^ 32) × (work.rest ≤ 2 * work.root) }
-    ensures { Stepped pair work.root work.rest result.root result.rest }
+fn step<W: Word>(work: Work<W>, pair: W) -> Work<W>
+    requires { (W.value pair < 4) × (8 * W.value work.root + 4 ≤ W.bound) × (W.value work.rest ≤ 2 * W.value work.root) }
+    ensures { Stepped (W.value pair) (W.value work.root) (W.value work.rest) (W.value result.root) (W.value result.rest) }
 {
-    let rest = work.rest * 4 + pair;
-    let trial = work.root * 4 + 1;
+    let rest = work.rest * W::from(4) + pair;
+    let trial = work.root * W::from(4) + W::from(1);
     // Doubled before it is asked, for the compiler: docs/DECISIONS.md, "`floor_root` takes every u64".
-    let twice = work.root * 2;
+    let twice = work.root * W::from(2);
     if trial <= rest {
         // the digit is 1
         Work {
-            root: twice + 1,
+            root: twice + W::from(1),
             rest: rest - trial,
         }
     } else {
@@ -44,11 +78,10 @@ fn step(work: Work, pair: u64) -> Work
 pub fn floor_root(n: u64) -> u64
     ensures { result ≡ root n }
 {
+    let pairs = (65 - u64::leading_zeros(n)) / 2;
     let mut work = Work { root: 0, rest: 0 };
-    let mut pairs = (65 - u64::leading_zeros(n)) / 2;
-    while 0 < pairs {
-        pairs -= 1;
-        work = step(work, (n >> (2 * pairs)) % 4);
+    for behind in (0..pairs).rev() {
+        work = step(work, (n >> (2 * behind)) % 4);
     }
     work.root
 }

@@ -9,16 +9,11 @@ use Rattle.sheet.specs.Shown.{setter, part}
 use Rattle.sheet.specs.Quantities.{product, ambient, mass, temperature}
 use Rattle.document.specs.Rules.{Every}
 use Rattle.document.specs.Lawful.{In, StuffIn, WareIn, WaterIn}
-use Rattle.formulas.specs.Tables.{table_a2, row_of, straight_at}
+use Rattle.formulas.specs.Tables.{row_of, straight_at}
 use Rattle.formulas.specs.Figures.{Within}
 use Rattle.formulas.specs.Sizes.{greatest}
 
 -- ---- specific heat
--- table A.2 in two columns
-pub record TableA2 (a b : List ℤ) : Type 0 where
-  pub is-a : a ≡ map (λ l. l.a) table_a2
-  pub is_b : b ≡ map (λ l. l.b) table_a2
-
 -- a line of table A.2 with the coefficients of the one that holds
 pub record RowIs (m : ℕ) (T : ℤ) (i : ℕ) : Type 0 where
   pub small : i < 21
@@ -46,6 +41,10 @@ setters_of x = map setter (take x.count.0 x.lines)
 
 abbrev pub parts_of : Partsˢ → List Part
 parts_of x = map part (take x.count.0 x.lines)
+
+-- no block has more setters, or more parts
+abbrev pub records_most : ℕ
+records_most = 32
 
 -- setters or parts within their limits, and the other temperature
 pub record Loads {A : Type 0} (In₁ : A → Type 0) (l : List A) (T : ℤ) : Type 0 where

@@ -8,7 +8,7 @@ ghost use Rattle.formulas.specs.Formulas.{joule, specific_heat, sensible};
 ghost use Rattle.formulas.specs.Figures.{Exact, Figure};
 ghost use Rattle.formulas.specs.Sizes.{specific_heat_most, sensible_most};
 ghost use Rattle.formulas.specs.Steps.{ProductFits, over};
-ghost use Rattle.solids.specs.Steps.{TableA2, RowIs, StraightFits, Heated, Warmed};
+ghost use Rattle.solids.specs.Steps.{RowIs, StraightFits, Heated, Warmed};
 
 use formulas::Straight;
 use formulas::rounding::Quotient;
@@ -22,16 +22,29 @@ use sheet::Stuff;
 #[derive(Drop)]
 pub struct Capacity(pub i64);
 
-// Table A.2 by material code, and at 19 and 20 the lines of corundum and opaque quartz above 800.0: of each line a + b T its a, in 0.01 kJ/(kg·°C).
-// Two columns and not lines, since they are lent and the prover follows a reference to numbers and not one to structs.
-pub const TABLE_A2_A: [i32; 21] = [
-    0, 84, 84, 42, 67, 67, 80, 94, 75, 77, 89, 63, 73, 96, 80, 84, 80, 89, 46, 80, 90,
-];
-
-// Of each line its b, in 1e-6 kJ/(kg·°C).
-pub const TABLE_A2_B: [i32; 21] = [
-    0, 260, 260, 880, 167, 126, 330, 250, 150, 300, 420, 126, 376, 150, 334, 260, 293, 0, 0, 418,
-    167,
+// Table A.2 by material code, and at 19 and 20 the lines of corundum and opaque quartz above 800.0.
+static TABLE_A2: [Straight; 21] = [
+    Straight { a: 0, b: 0 },
+    Straight { a: 84, b: 260 },
+    Straight { a: 84, b: 260 },
+    Straight { a: 42, b: 880 },
+    Straight { a: 67, b: 167 },
+    Straight { a: 67, b: 126 },
+    Straight { a: 80, b: 330 },
+    Straight { a: 94, b: 250 },
+    Straight { a: 75, b: 150 },
+    Straight { a: 77, b: 300 },
+    Straight { a: 89, b: 420 },
+    Straight { a: 63, b: 126 },
+    Straight { a: 73, b: 376 },
+    Straight { a: 96, b: 150 },
+    Straight { a: 80, b: 334 },
+    Straight { a: 84, b: 260 },
+    Straight { a: 80, b: 293 },
+    Straight { a: 89, b: 0 },
+    Straight { a: 46, b: 0 },
+    Straight { a: 80, b: 418 },
+    Straight { a: 90, b: 167 },
 ];
 
 // The line of table A.2 that holds for a material at a temperature.
@@ -74,33 +87,23 @@ fn stored(mass: Kilos, c: Capacity, rise: Rise) -> Quotient
     Quotient(mass.0 as i64 * c.0 * rise.0, 1_000_000)
 }
 
-// The specific heat of a thing at a temperature, by the columns of table A.2.
-fn specific_heat(a: &[i32; 21], b: &[i32; 21], stuff: Stuff, at: Degrees) -> Capacity
-    requires table_a2 { TableA2 a.now b.now }
-    requires heated { Heated (stuffOf stuff) at.0 }
+// The specific heat of a thing at a temperature.
+fn specific_heat(stuff: Stuff, at: Degrees) -> Capacity
+    requires { Heated (stuffOf stuff) at.0 }
     ensures { Exact specific_heat_most result.0 (specific_heat (stuffOf stuff) at.0) }
 {
     let material = stuff.material;
     if material.0 == 0 {
         return given(stuff.c);
     }
-    let i = row(material, at);
-    along(Straight { a: a[i], b: b[i] }, at)
+    along(TABLE_A2[row(material, at)], at)
 }
 
 // m c (at − from), with c at the first of the two temperatures, in whole joules.
-pub fn sensible(
-    a: &[i32; 21],
-    b: &[i32; 21],
-    mass: Kilos,
-    stuff: Stuff,
-    at: Degrees,
-    from: Degrees,
-) -> Joules
-    requires table_a2 { TableA2 a.now b.now }
-    requires warmed { Warmed mass.0 (stuffOf stuff) at.0 from.0 }
+pub fn sensible(mass: Kilos, stuff: Stuff, at: Degrees, from: Degrees) -> Joules
+    requires { Warmed mass.0 (stuffOf stuff) at.0 from.0 }
     ensures { Figure joule sensible_most result.0 (sensible paper mass.0 (stuffOf stuff) at.0 from.0) }
 {
-    let c = specific_heat(a, b, stuff, at);
+    let c = specific_heat(stuff, at);
     stored(mass, c, at.above(from)).joules()
 }

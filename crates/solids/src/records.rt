@@ -1,22 +1,24 @@
 // The heat of ware, setters and parts: m c (T − T₀) of each record, and the sums.
-ghost use Rattle.std.specs.Prelude.{◌≡◌};
+ghost use Rattle.std.specs.Prelude.{◌≡◌, ◌≤◌, ◌*◌, ℤ, length};
 ghost use Rattle.sheet.specs.Firing.{Firing};
-ghost use Rattle.sheet.specs.Shown.{ware as ware_of};
+ghost use Rattle.sheet.specs.Block.{sum};
+ghost use Rattle.sheet.specs.Shown.{setter as setter_of, part as part_of, ware as ware_of};
 ghost use Rattle.sheet.specs.Quantities.{temperature};
+ghost use Rattle.document.specs.Rules.{Every};
 ghost use Rattle.document.specs.Lawful.{SetterIn, PartIn};
 ghost use Rattle.formulas.specs.Rounding.{paper};
-ghost use Rattle.formulas.specs.Formulas.{joule, q3, q5, q8, x1, x5, x10};
+ghost use Rattle.formulas.specs.Formulas.{joule, sensible, q3, q5, q8, x1, x5, x10};
 ghost use Rattle.formulas.specs.Figures.{Within, Figure};
 ghost use Rattle.formulas.specs.Sizes.{greatest, sensible_most, setters_heat_most, parts_heat_most};
-ghost use Rattle.solids.specs.Steps.{Loads, WareWarmed, WareFired, setters_of, parts_of};
+ghost use Rattle.solids.specs.Steps.{records_most, Loads, WareWarmed, WareFired, setters_of, parts_of};
 
-use crate::material::{TABLE_A2_A, TABLE_A2_B, sensible};
+use crate::material::sensible;
 use quantity::heat::Joules;
 use quantity::mass::{Kilos, Product};
 use quantity::sheet::{PartCount, SetterCount};
 use quantity::temperature::Degrees;
 use sheet::block::held;
-use sheet::{Parts, Setters, Ware};
+use sheet::{Part, Parts, Setter, Setters, Ware};
 
 // The setters' heat above the base temperature, and what they take up until the ware's highest temperature.
 #[derive(Drop)]
@@ -32,6 +34,77 @@ pub struct PartHeats {
     pub x10: Joules,
 }
 
+// What is heated brings heat and takes heat with it.
+#[derive(Drop)]
+struct Heats {
+    brought: Joules,
+    taken: Joules,
+}
+
+// A record that is heated, between temperatures of its own and of the firing.
+trait Load<At>: Copy {
+    ghost within: { Self → At → Type 0 };
+
+    ghost brought: { Self → At → ℤ };
+
+    ghost taken: { Self → At → ℤ };
+
+    fn heats(self, at: At) -> Heats
+        requires { within self at }
+        ensures brings { Figure joule sensible_most result.brought.0 (brought self at) }
+        ensures takes { Figure joule sensible_most result.taken.0 (taken self at) };
+}
+
+impl Load<(Degrees, Degrees)> for Setter {
+    ghost within = { λ x at. SetterIn (setter_of x) × Within (greatest temperature) at.0.0 × Within (greatest temperature) at.1.0 };
+
+    ghost brought = { λ x at. sensible paper (setter_of x).mass (setter_of x).stuff (setter_of x).entry at.0.0 };
+
+    ghost taken = { λ x at. sensible paper (setter_of x).mass (setter_of x).stuff at.1.0 (setter_of x).entry };
+
+    // Between the base temperature and the ware's highest.
+    fn heats(self, at: (Degrees, Degrees)) -> Heats {
+        let (t, highest) = at;
+        Heats {
+            brought: sensible(self.mass, self.stuff, self.entry, t),
+            taken: sensible(self.mass, self.stuff, highest, self.entry),
+        }
+    }
+}
+
+impl Load<Degrees> for Part {
+    ghost within = { λ x at. PartIn (part_of x) × Within (greatest temperature) at.0 };
+
+    ghost brought = { λ x at. sensible paper (part_of x).mass (part_of x).stuff (part_of x).before at.0 };
+
+    ghost taken = { λ x at. sensible paper (part_of x).mass (part_of x).stuff (part_of x).firing at.0 };
+
+    fn heats(self, at: Degrees) -> Heats {
+        Heats {
+            brought: sensible(self.mass, self.stuff, self.before, at),
+            taken: sensible(self.mass, self.stuff, self.firing, at),
+        }
+    }
+}
+
+// Both heats of all records of a block.
+fn all_heats<At: Copy, L: Load<At>>(lines: &[L], at: At) -> Heats
+    requires room { length lines.now ≤ records_most }
+    requires each { Every (λ x. L.within x at) lines.now }
+    ensures brings { Figure joule (records_most * sensible_most) result.brought.0 (sum (λ x. L.brought x at) lines.now) }
+    ensures takes { Figure joule (records_most * sensible_most) result.taken.0 (sum (λ x. L.taken x at) lines.now) }
+{
+    let mut brought = Joules(0);
+    let mut taken = Joules(0);
+    // So written for the compiler: docs/DECISIONS.md, "Two heats in one loop".
+    for line in lines {
+        let heats = line.heats(at);
+        brought = brought.plus(heats.brought);
+        taken = taken.plus(heats.taken);
+    }
+    Heats { brought, taken }
+}
+
 // Both heats of the setters.
 pub fn setter_heats(setters: Setters, t: Degrees, highest: Degrees) -> SetterHeats
     requires loads { Loads SetterIn (setters_of setters) t.0 }
@@ -39,20 +112,12 @@ pub fn setter_heats(setters: Setters, t: Degrees, highest: Degrees) -> SetterHea
     ensures figure { (f : Firing) → f.setters ≡ setters_of setters → f.ambient ≡ t.0 → Figure joule setters_heat_most result.q3.0 (q3 f paper) }
     ensures figure_2 { (f : Firing) → f.setters ≡ setters_of setters → f.ware.highest ≡ highest.0 → Figure joule setters_heat_most result.x5.0 (x5 f paper) }
 {
-    // So written for the compiler: docs/DECISIONS.md, "A constant array is bound before a loop".
-    let a = TABLE_A2_A;
-    let b = TABLE_A2_B;
-    let lines = setters.lines;
     let count = held(setters.count.0, SetterCount::GREATEST);
-    let mut q3 = Joules(0);
-    let mut x5 = Joules(0);
-    // So written for the compiler: docs/DECISIONS.md, "Two heats in one loop".
-    for i in 0..count {
-        let setter = lines[i];
-        q3 = q3.plus(sensible(&a, &b, setter.mass, setter.stuff, setter.entry, t));
-        x5 = x5.plus(sensible(&a, &b, setter.mass, setter.stuff, highest, setter.entry));
+    let heats = all_heats(&setters.lines[..count], (t, highest));
+    SetterHeats {
+        q3: heats.brought,
+        x5: heats.taken,
     }
-    SetterHeats { q3, x5 }
 }
 
 // Both heats of the parts.
@@ -61,20 +126,12 @@ pub fn part_heats(parts: Parts, t: Degrees) -> PartHeats
     ensures figure { (f : Firing) → f.parts ≡ parts_of parts → f.ambient ≡ t.0 → Figure joule parts_heat_most result.q8.0 (q8 f paper) }
     ensures figure_2 { (f : Firing) → f.parts ≡ parts_of parts → f.ambient ≡ t.0 → Figure joule parts_heat_most result.x10.0 (x10 f paper) }
 {
-    // So written for the compiler: docs/DECISIONS.md, "A constant array is bound before a loop".
-    let a = TABLE_A2_A;
-    let b = TABLE_A2_B;
-    let lines = parts.lines;
     let count = held(parts.count.0, PartCount::GREATEST);
-    let mut q8 = Joules(0);
-    let mut x10 = Joules(0);
-    // So written for the compiler: docs/DECISIONS.md, "Two heats in one loop".
-    for i in 0..count {
-        let part = lines[i];
-        q8 = q8.plus(sensible(&a, &b, part.mass, part.stuff, part.before, t));
-        x10 = x10.plus(sensible(&a, &b, part.mass, part.stuff, part.firing, t));
+    let heats = all_heats(&parts.lines[..count], t);
+    PartHeats {
+        q8: heats.brought,
+        x10: heats.taken,
     }
-    PartHeats { q8, x10 }
 }
 
 // The green ware's heat above the base temperature.
@@ -82,9 +139,7 @@ pub fn q5(ware: Ware, t: Degrees) -> Joules
     requires { WareWarmed (ware_of ware) t.0 }
     ensures { (f : Firing) → f.ware ≡ ware_of ware → f.ambient ≡ t.0 → Figure joule sensible_most result.0 (q5 f paper) }
 {
-    let a = TABLE_A2_A;
-    let b = TABLE_A2_B;
-    sensible(&a, &b, ware.green, ware.stuff, ware.entry, t)
+    sensible(ware.green, ware.stuff, ware.entry, t)
 }
 
 // The fired ware's heat, from its entry to the highest temperature.
@@ -92,8 +147,6 @@ pub fn x1(product: Product, ware: Ware) -> Joules
     requires { WareFired product.0 (ware_of ware) }
     ensures { (f : Firing) → f.product ≡ product.0 → f.ware ≡ ware_of ware → Figure joule sensible_most result.0 (x1 f paper) }
 {
-    let a = TABLE_A2_A;
-    let b = TABLE_A2_B;
     let mass = Kilos(product.0);
-    sensible(&a, &b, mass, ware.stuff, ware.highest, ware.entry)
+    sensible(mass, ware.stuff, ware.highest, ware.entry)
 }

@@ -1,5 +1,5 @@
 -- The readings by section and stage, as the code keeps them, and what its steps ask.
-use Rattle.std.specs.Prelude.{ℕ, ◌/◌, ◌≤◌, ◌<◌, ◌≡◌, List, [], map, ℤ, pos, ◌+ℤ◌, ◌-ℤ◌, ◌*ℤ◌, get_or, take, ◌≤ℤ◌}
+use Rattle.std.specs.Prelude.{ℕ, ◌/◌, ◌≤◌, ◌<◌, ◌≡◌, List, map, ℤ, pos, ◌+ℤ◌, ◌-ℤ◌, ◌*ℤ◌, get_or, take, ◌≤ℤ◌}
 use Rattle.std.specs.Int.{w64}
 use Rattle.std.proofs.Common.{SFits}
 use Rattle.roots.specs.Steps.{side}
@@ -14,7 +14,6 @@ use Rattle.sheet.specs.Quantities.{surface, near_air, walls_most}
 use Rattle.document.specs.Lawful.{In, StageIn, SectionIn, Lawful}
 use Rattle.formulas.specs.Rounding.{fourth_root}
 use Rattle.formulas.specs.Sizes.{warmer_most}
-use Rattle.surface.specs.declared.Group.{Group}
 
 -- ---- steps
 pub record RiseIn (p : ℕ) (Δ : ℤ) : Type 0 where
@@ -55,22 +54,16 @@ pub record LostIn (x : Reading) (s : Section) (t : Stage) : Type 0 where
   pub wall : WallIn x s
   pub stage : StageIn t
 
--- ---- fourth roots that are noted down: of a rise, of a group of them, of all groups. Of what is more than a rise can be nothing is said
+-- ---- fourth roots that are noted down: of a rise, of a group of them. Of what is more than a rise can be nothing is said
 pub record Rooted (rise root : ℕ) : Type 0 where
   pub is : rise ≤ warmer_most → root ≡ fourth_root rise
 
 abbrev pub EachRooted : List ℕ → List ℕ → Type 0
 EachRooted rises roots = (k : ℕ) → k < side → Rooted (get_or rises k 0) (get_or roots k 0)
 
--- as many groups as hold every reading of a sheet, and what stands beyond them
+-- as many groups as hold every reading of a sheet
 abbrev pub groups_most : ℕ
 groups_most = walls_most / side
-
-abbrev pub no_group : Group
-no_group = record { rises = []; roots = [] }
-
-abbrev pub AllRooted : List Group → Type 0
-AllRooted groups = (g : ℕ) → EachRooted (get_or groups g no_group).rises (get_or groups g no_group).roots
 
 -- ---- cells
 -- the firing that sections, stages and readings show; it keeps every rule, so each of its sections was read in each of its stages

@@ -13,7 +13,7 @@ ghost use Rattle.formulas.specs.Formulas.{joule, placed, fourth, radiation, flux
 ghost use Rattle.formulas.specs.Figures.{Exact, Figure};
 ghost use Rattle.formulas.specs.Sizes.{cells_most, placed_most, warmer_most, convection_most, radiation_most, flux_most, wall_heat_most, x9_most};
 ghost use Rattle.formulas.specs.Steps.{over};
-ghost use Rattle.surface.specs.Cells.{FourthFits, DifferenceFits, LostFits, RiseIn, HotIn, ReadingIn, WallIn, LostIn, Rooted, EachRooted, AllRooted, Seen};
+ghost use Rattle.surface.specs.Cells.{FourthFits, DifferenceFits, LostFits, RiseIn, HotIn, ReadingIn, WallIn, LostIn, Rooted, EachRooted, Seen};
 
 use formulas::rounding::Quotient;
 use quantity::heat::Joules;
@@ -23,6 +23,7 @@ use quantity::temperature::{Degrees, Rise};
 use roots::SIDE;
 use sheet::block::held;
 use sheet::{Reading, Section, SectionReadings, Sections, Stage, Stages};
+use std::array;
 
 // A heat flux, in 1e-5 W/m².
 #[derive(Drop)]
@@ -33,7 +34,7 @@ pub struct Flux(pub i64);
 pub struct Fourth(pub i64);
 
 // A of formula 25 in 0.01, by place.
-const FACTOR: [u64; 4] = [0, 326, 256, 210];
+static FACTOR: [u64; 4] = [0, 326, 256, 210];
 
 // The fourth root of a rise in 1e-8: the square root cut down, and the square root of that cut down.
 fn fourth_root(rise: u64) -> u64
@@ -43,16 +44,25 @@ fn fourth_root(rise: u64) -> u64
     roots::floor_root(roots::floor_root(rise * 1_000_000_000_000_000) * 100_000_000)
 }
 
-// A rise and its fourth root, noted down when it was found beside others.
-#[derive(Drop)]
+// A rise and its fourth root, noted down when it was found beside others. Of what is more than a rise can be nothing is said.
+#[derive(Clone, Copy)]
 struct Noted {
     rise: u64,
     root: u64,
+    ghost rooted: { Rooted rise root },
+}
+
+impl Noted {
+    fn new(rise: u64, root: u64) -> Noted
+        requires { Rooted rise root }
+    {
+        Noted { rise, root }
+    }
 }
 
 // The fourth root of a rise: the one that is noted, or else by itself.
 fn known(rise: u64, noted: Noted) -> u64
-    requires { (rise ≤ warmer_most) × Rooted noted.rise noted.root }
+    requires { rise ≤ warmer_most }
     ensures { result ≡ fourth_root rise }
 {
     if noted.rise == rise {
@@ -74,13 +84,7 @@ fn each_times(x: [u64; SIDE], by: u64, most: u64) -> [u64; SIDE]
     requires { most * by < 2 ^ 64 }
     ensures { (k : ℕ) → k < side → (get_or x k 0 ≤ most → get_or result k 0 ≡ get_or x k 0 * by) × (get_or result k 0 ≤ most * by) }
 {
-    let mut r = [0; SIDE];
-    let mut i = 0;
-    while i < SIDE {
-        r[i] = times(x[i], by, most);
-        i += 1;
-    }
-    r
+    x.map(|one| times(one, by, most))
 }
 
 // The fourth roots of several rises, side by side.
@@ -91,9 +95,15 @@ fn fourth_roots(rises: [u64; SIDE]) -> [u64; SIDE]
     roots::floor_roots(each_times(first, 100_000_000, 2_000_000_000), 29)
 }
 
+// Several rises, noted down with their fourth roots.
+fn noted_down(rises: [u64; SIDE]) -> [Noted; SIDE] {
+    let roots = fourth_roots(rises);
+    array::from_fn(|i| Noted::new(rises[i], roots[i]))
+}
+
 // The first term of formula 25, A Δ ⁴√Δ, before it is rounded.
 fn first_term(a: u64, rise: u64, noted: Noted) -> Quotient
-    requires { (a ≤ placed_most) × (rise ≤ warmer_most) × Rooted noted.rise noted.root }
+    requires { (a ≤ placed_most) × (rise ≤ warmer_most) }
     ensures { result ≡ over (pos (a * rise * fourth_root rise)) (10 ^ 6) }
 {
     Quotient((a * rise * known(rise, noted)) as i64, 1_000_000)
@@ -101,7 +111,7 @@ fn first_term(a: u64, rise: u64, noted: Noted) -> Quotient
 
 // The first term of formula 25.
 fn convection(place: SectionPlace, rise: Rise, noted: Noted) -> Flux
-    requires { RiseIn place.0 rise.0 × Rooted noted.rise noted.root }
+    requires { RiseIn place.0 rise.0 }
     ensures { Exact convection_most result.0 (pos (convected (placed place.0) (nat_abs rise.0))) }
 {
     let at = place.0;
@@ -144,7 +154,7 @@ fn both(first: Flux, second: Flux) -> Flux
 
 // Formula 25, as a product.
 fn flux_at(reading: Reading, section: Section, noted: Noted) -> Flux
-    requires { WallIn reading (section_of section) × Rooted noted.rise noted.root }
+    requires { WallIn reading (section_of section) }
     ensures { (w : Wall) → w.surface ≡ reading.surface.0 → w.air ≡ reading.air.0 →
         Figure (10 ^ 9) flux_most result.0 (flux paper (section_of section) w) }
 {
@@ -163,7 +173,7 @@ fn lost(flux: Flux, area: Area, minutes: Minutes) -> Quotient
 
 // The heat that leaves through a section in a stage.
 fn wall_heat(reading: Reading, section: Section, stage: Stage, noted: Noted) -> Joules
-    requires { LostIn reading (section_of section) (stage_of stage) × Rooted noted.rise noted.root }
+    requires { LostIn reading (section_of section) (stage_of stage) }
     ensures { (w : Wall) → w.surface ≡ reading.surface.0 → w.air ≡ reading.air.0 →
         Figure joule wall_heat_most result.0 (wall_heat paper (section_of section) (stage_of stage) w) }
 {
@@ -195,10 +205,8 @@ fn gathered(
     requires { (rows ≤ sections_most) × (columns ≤ stages_most) × ((i j : ℕ) → i < rows → j < columns → ReadingIn (cell readings i j)) }
 {
     let mut rises = [[0; SIDE]; GROUPS];
-    for i in 0..rows {
-        let row = readings[i];
-        for j in 0..columns {
-            let reading = row.stages[j];
+    for (i, row) in readings[..rows].iter().enumerate() {
+        for (j, reading) in row.stages[..columns].iter().enumerate() {
             let at = turn(i, j, columns);
             rises[at / SIDE][at % SIDE] = arith::magnitude(reading.surface.above(reading.air).0);
         }
@@ -206,29 +214,14 @@ fn gathered(
     rises
 }
 
-// Rises and their fourth roots.
-#[derive(Clone, Copy)]
-struct Group {
-    rises: [u64; SIDE],
-    roots: [u64; SIDE],
-}
-
 // The fourth roots of the first `count` rises, group by group. A group with fewer than half of its rises is left out: by themselves they take less time.
-fn side_by_side(rises: [[u64; SIDE]; GROUPS], count: usize) -> [Group; GROUPS]
+fn side_by_side(rises: [[u64; SIDE]; GROUPS], count: usize) -> [[Noted; SIDE]; GROUPS]
     requires { count ≤ cells_most }
-    ensures { AllRooted result }
 {
-    let zeros = [0; SIDE];
-    let none = Group {
-        rises: zeros,
-        roots: zeros,
-    };
-    let mut groups = [none; GROUPS];
     let full = held((count + SIDE / 2) / SIDE, GROUPS);
-    for g in 0..full {
-        let some = rises[g];
-        let roots = fourth_roots(some);
-        groups[g] = Group { rises: some, roots };
+    let mut groups = [[Noted::new(0, 0); SIDE]; GROUPS];
+    for (g, some) in rises[..full].iter().enumerate() {
+        groups[g] = noted_down(*some);
     }
     groups
 }
@@ -247,18 +240,15 @@ pub fn x9(
     let rows = held(sections.count.0, SectionCount::GREATEST);
     let columns = held(stages.count.0, StageCount::GREATEST);
     let groups = side_by_side(gathered(readings, rows, columns), rows * columns);
+    let noted = groups.as_slice().as_flattened();
     let mut sum = Joules(0);
+    // By index: what belongs to a cell lies in four arrays, its reading, its section, its stage and what is noted of it.
     for i in 0..rows {
         let row = readings[i];
         for j in 0..columns {
             let reading = row.stages[j];
-            let at = turn(i, j, columns);
-            let group = groups[at / SIDE];
-            let noted = Noted {
-                rise: group.rises[at % SIDE],
-                root: group.roots[at % SIDE],
-            };
-            sum = sum.plus(wall_heat(reading, places[i], times[j], noted));
+            let own = noted[turn(i, j, columns)];
+            sum = sum.plus(wall_heat(reading, places[i], times[j], own));
         }
     }
     sum

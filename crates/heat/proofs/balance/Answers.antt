@@ -1,11 +1,10 @@
 -- The sums of both sides, from the joules of every heat. Assumes nothing.
-use Rattle.std.proofs.Common.{refl, ap, ◌∙◌, List, [], ◌∷◌, ℤ, ◌+ℤ◌, ◌-ℤ◌}
+use Rattle.std.proofs.Common.{◌≡◌, refl, ap, ◌∙◌, List, [], ◌∷◌, ℤ, ◌+ℤ◌, ◌-ℤ◌}
 use mathlib.Core.Path.{ap₂}
-use Rattle.arith.proofs.Ring.{v, ◌⊕◌, ring}
 use Rattle.arith.proofs.Machine.{Known, Mx, raw, ◌⟨+⟩◌, ◌⟨-⟩◌}
 use Rattle.sheet.specs.Firing.{Firing}
 use Rattle.formulas.specs.Rounding.{paper}
-use Rattle.formulas.specs.Formulas.{x1, x2, x3, x5, x7, x8, x9, x10, useful, withset}
+use Rattle.formulas.specs.Formulas.{useful, withset}
 use Rattle.formulas.specs.Items.{x11, heats}
 use Rattle.heat.specs.declared.Heats.{Heats}
 use Rattle.heat.specs.Balance.{Heated}
@@ -19,62 +18,80 @@ use Rattle.heat.proofs.balance.Goals as goal
 abbrev known : {f : Firing} {h : Heats} → Heated f h → List Known
 known h =
     within h.q1.size ∷ within h.q2.size ∷ within h.q3.size ∷ within h.q5.size ∷ within h.q8.size
-    ∷ within h.x1.size ∷ within h.x2.size ∷ within h.x3.size ∷ within h.x5.size ∷ within h.x10.size
-    ∷ within h.x7.size ∷ within h.x8.size ∷ within h.x9.size ∷ within h.water.size ∷ []
+    ∷ within h.x1.size ∷ within h.x2.size ∷ within h.x3.size ∷ within h.x5.size
+    ∷ within h.x7.size ∷ within h.x8.size ∷ within h.x9.size ∷ within h.x10.size ∷ within h.water.size ∷ []
 
 abbrev income : Mx
 income = raw 0 ⟨+⟩ raw 1 ⟨+⟩ raw 2 ⟨+⟩ raw 3 ⟨+⟩ raw 4
 
 abbrev solids : Mx
-solids = raw 5 ⟨+⟩ raw 6 ⟨+⟩ raw 7 ⟨+⟩ raw 8 ⟨+⟩ raw 9
+solids = raw 5 ⟨+⟩ raw 6 ⟨+⟩ raw 7 ⟨+⟩ raw 8
 
-abbrev gases : Mx
-gases = raw 10 ⟨+⟩ raw 11 ⟨+⟩ raw 12
+abbrev spent : Mx
+spent = solids ⟨+⟩ raw 9 ⟨+⟩ raw 10 ⟨+⟩ raw 11 ⟨+⟩ raw 12
 
 abbrev used : Mx
 used = raw 13 ⟨+⟩ raw 7 ⟨+⟩ raw 5
 
 -- of the heats of the firing that was asked for
-pub five-income-requires : goal.five-income-requires
-five-income-requires c =
-    let ks = known (c.heats_of-h.ensures _ c.requires.1) in
-    record {
-      two = fit ks (raw 0 ⟨+⟩ raw 1) tt;
-      three = fit ks (raw 0 ⟨+⟩ raw 1 ⟨+⟩ raw 2) tt;
-      four = fit ks (raw 0 ⟨+⟩ raw 1 ⟨+⟩ raw 2 ⟨+⟩ raw 3) tt;
-      five = fit ks income tt;
-    }
+pub plus-requires : goal.plus-requires
+plus-requires c = fit (known (c.heats_of-h.ensures _ c.requires.1)) (raw 0 ⟨+⟩ raw 1) tt
 
-pub five-solids-requires : goal.five-solids-requires
-five-solids-requires c =
-    let ks = known (c.heats_of-h.ensures _ c.requires.1) in
-    record {
-      two = fit ks (raw 5 ⟨+⟩ raw 6) tt;
-      three = fit ks (raw 5 ⟨+⟩ raw 6 ⟨+⟩ raw 7) tt;
-      four = fit ks (raw 5 ⟨+⟩ raw 6 ⟨+⟩ raw 7 ⟨+⟩ raw 8) tt;
-      five = fit ks solids tt;
-    }
+pub plus-requires-2 : goal.plus-requires-2
+plus-requires-2 c = rw c.plus.ensures (fit (known (c.heats_of-h.ensures _ c.requires.1)) (raw 0 ⟨+⟩ raw 1 ⟨+⟩ raw 2) tt)
 
-pub three-requires : goal.three-requires
-three-requires c =
-    let ks = known (c.heats_of-h.ensures _ c.requires.1) in
-    record { two = fit ks (raw 10 ⟨+⟩ raw 11) tt; three = fit ks gases tt }
+pub plus-requires-3 : goal.plus-requires-3
+plus-requires-3 c = rw (c.plus-2.ensures, c.plus.ensures) (fit (known (c.heats_of-h.ensures _ c.requires.1)) (raw 0 ⟨+⟩ raw 1 ⟨+⟩ raw 2 ⟨+⟩ raw 3) tt)
+
+pub plus-income-requires : goal.plus-income-requires
+plus-income-requires c = rw (c.plus-3.ensures, c.plus-2.ensures, c.plus.ensures) (fit (known (c.heats_of-h.ensures _ c.requires.1)) (income) tt)
+
+pub plus-requires-4 : goal.plus-requires-4
+plus-requires-4 c = fit (known (c.heats_of-h.ensures _ c.requires.1)) (raw 5 ⟨+⟩ raw 6) tt
+
+pub plus-requires-5 : goal.plus-requires-5
+plus-requires-5 c = rw c.plus-4.ensures (fit (known (c.heats_of-h.ensures _ c.requires.1)) (raw 5 ⟨+⟩ raw 6 ⟨+⟩ raw 7) tt)
+
+pub plus-solids-requires : goal.plus-solids-requires
+plus-solids-requires c = rw (c.plus-5.ensures, c.plus-4.ensures) (fit (known (c.heats_of-h.ensures _ c.requires.1)) (solids) tt)
+
+pub plus-requires-6 : goal.plus-requires-6
+plus-requires-6 c = rw (c.plus-solids.ensures, c.plus-5.ensures, c.plus-4.ensures) (fit (known (c.heats_of-h.ensures _ c.requires.1)) (solids ⟨+⟩ raw 9) tt)
+
+pub plus-requires-7 : goal.plus-requires-7
+plus-requires-7 c = rw (c.plus-6.ensures, c.plus-solids.ensures, c.plus-5.ensures, c.plus-4.ensures) (fit (known (c.heats_of-h.ensures _ c.requires.1)) (solids ⟨+⟩ raw 9 ⟨+⟩ raw 10) tt)
+
+pub plus-requires-8 : goal.plus-requires-8
+plus-requires-8 c = rw (c.plus-7.ensures, c.plus-6.ensures, c.plus-solids.ensures, c.plus-5.ensures, c.plus-4.ensures) (fit (known (c.heats_of-h.ensures _ c.requires.1)) (solids ⟨+⟩ raw 9 ⟨+⟩ raw 10 ⟨+⟩ raw 11) tt)
 
 pub plus-spent-requires : goal.plus-spent-requires
-plus-spent-requires c = rw (c.five-solids.ensures, c.three.ensures) (fit (known (c.heats_of-h.ensures _ c.requires.1)) (solids ⟨+⟩ gases) tt)
+plus-spent-requires c = rw (c.plus-8.ensures, c.plus-7.ensures, c.plus-6.ensures, c.plus-solids.ensures, c.plus-5.ensures, c.plus-4.ensures) (fit (known (c.heats_of-h.ensures _ c.requires.1)) (spent) tt)
 
 pub minus-x11-requires : goal.minus-x11-requires
 minus-x11-requires c =
-    rw (c.five-income.ensures, c.plus-spent.ensures, c.five-solids.ensures, c.three.ensures)
-    (fit (known (c.heats_of-h.ensures _ c.requires.1)) (income ⟨-⟩ (solids ⟨+⟩ gases)) tt)
+    rw (
+      c.plus-income.ensures,
+      c.plus-3.ensures,
+      c.plus-2.ensures,
+      c.plus.ensures,
+      c.plus-spent.ensures,
+      c.plus-8.ensures,
+      c.plus-7.ensures,
+      c.plus-6.ensures,
+      c.plus-solids.ensures,
+      c.plus-5.ensures,
+      c.plus-4.ensures,
+    )
+    (fit (known (c.heats_of-h.ensures _ c.requires.1)) (income ⟨-⟩ spent) tt)
 
-pub three-useful-requires : goal.three-useful-requires
-three-useful-requires c =
-    let ks = known (c.heats_of-h.ensures _ c.requires.1) in
-    record { two = fit ks (raw 13 ⟨+⟩ raw 7) tt; three = fit ks used tt }
+pub plus-requires-9 : goal.plus-requires-9
+plus-requires-9 c = fit (known (c.heats_of-h.ensures _ c.requires.1)) (raw 13 ⟨+⟩ raw 7) tt
+
+pub plus-useful-requires : goal.plus-useful-requires
+plus-useful-requires c = rw c.plus-9.ensures (fit (known (c.heats_of-h.ensures _ c.requires.1)) used tt)
 
 pub plus-withset-requires : goal.plus-withset-requires
-plus-withset-requires c = rw c.three-useful.ensures (fit (known (c.heats_of-h.ensures _ c.requires.1)) (used ⟨+⟩ raw 8) tt)
+plus-withset-requires c = rw (c.plus-useful.ensures, c.plus-9.ensures) (fit (known (c.heats_of-h.ensures _ c.requires.1)) (used ⟨+⟩ raw 8) tt)
 
 -- one heat, and those behind it
 infixr 5 ◌&◌
@@ -87,22 +104,25 @@ returns c =
     λ f k.
     let h = c.heats_of-h.ensures f k in
     let ks = known h in
-    let order =
-    ring (x1 f paper ∷ x2 f paper ∷ x3 f paper ∷ x5 f paper ∷ x10 f paper ∷ x7 f paper ∷ x8 f paper ∷ x9 f paper ∷ [])
-    (v 0 ⊕ v 1 ⊕ v 2 ⊕ v 3 ⊕ v 5 ⊕ v 6 ⊕ v 7 ⊕ v 4) (v 0 ⊕ v 1 ⊕ v 2 ⊕ v 3 ⊕ v 4 ⊕ (v 5 ⊕ v 6 ⊕ v 7)) tt in
+    let d = c.heats_of-h.result in
     let incomes = plus (plus (plus (plus h.q1.is h.q2.is) h.q3.is) h.q5.is) h.q8.is in
-    let taken = plus (plus (plus (plus h.x1.is h.x2.is) h.x3.is) h.x5.is) h.x10.is in
-    let expenses = plus taken (plus (plus h.x7.is h.x8.is) h.x9.is) in
+    let expenses = plus (plus (plus (plus (plus (plus (plus h.x1.is h.x2.is) h.x3.is) h.x5.is) h.x7.is) h.x8.is) h.x9.is) h.x10.is in
     let uses = plus (plus h.water.is h.x3.is) h.x1.is in
-    let spent = c.plus-spent.ensures ∙ ap₂ ◌+ℤ◌ c.five-solids.ensures c.three.ensures in
-    let left = c.minus-x11.ensures ∙ ap₂ ◌-ℤ◌ c.five-income.ensures spent in
-    let set = c.plus-withset.ensures ∙ ap (λ (z : ℤ). z +ℤ c.heats_of-h.result.x5.0) c.three-useful.ensures in
+    let all : c.plus-income.result.0 ≡ d.q1.0 +ℤ d.q2.0 +ℤ d.q3.0 +ℤ d.q5.0 +ℤ d.q8.0 =
+    rw (c.plus-income.ensures, c.plus-3.ensures, c.plus-2.ensures, c.plus.ensures) refl
+    in
+    let gone : c.plus-spent.result.0 ≡ d.x1.0 +ℤ d.x2.0 +ℤ d.x3.0 +ℤ d.x5.0 +ℤ d.x7.0 +ℤ d.x8.0 +ℤ d.x9.0 +ℤ d.x10.0 =
+    rw (c.plus-spent.ensures, c.plus-8.ensures, c.plus-7.ensures, c.plus-6.ensures, c.plus-solids.ensures, c.plus-5.ensures, c.plus-4.ensures) refl
+    in
+    let left = c.minus-x11.ensures ∙ ap₂ ◌-ℤ◌ all gone in
+    let use_all : c.plus-useful.result.0 ≡ d.water.0 +ℤ d.x3.0 +ℤ d.x1.0 = rw (c.plus-useful.ensures, c.plus-9.ensures) refl in
+    let set = c.plus-withset.ensures ∙ ap (λ (z : ℤ). z +ℤ d.x5.0) use_all in
     laid h.q1 tt
     & laid h.q2 tt
     & laid h.q3 tt
     & laid h.q5 tt
     & laid h.q8 tt
-    & summed c.five-income.ensures (in_is f paper) incomes (most ks income tt)
+    & summed all (in_is f paper) incomes (most ks income tt)
     & laid h.x1 tt
     & laid h.x2 tt
     & laid h.x3 tt
@@ -111,7 +131,7 @@ returns c =
     & laid h.x8 tt
     & laid h.x9 tt
     & laid h.x10 tt
-    & summed left (ap₂ ◌-ℤ◌ (in_is f paper) (spent_is f paper ∙ order)) (minus incomes expenses) (most ks (income ⟨-⟩ (solids ⟨+⟩ gases)) tt)
-    & summed c.three-useful.ensures refl uses (most ks used tt)
+    & summed left (ap₂ ◌-ℤ◌ (in_is f paper) (spent_is f paper)) (minus incomes expenses) (most ks (income ⟨-⟩ spent) tt)
+    & summed use_all refl uses (most ks used tt)
     & summed set refl (plus uses h.x5.is) (most ks (used ⟨+⟩ raw 8) tt)
     & tt

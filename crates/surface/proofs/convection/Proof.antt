@@ -23,7 +23,7 @@ rise-fits c = search rules
 
 cast-size : tie.Need-overflow_cast-size
 cast-size c =
-    let p = (start c).requires.0 in
+    let p = (start c).requires in
     rw (to_z-of_z (rise-fits c)) (yes_non_neg p.low, record { fits = lt_of_le_of_lt (abs≤⁺ p.low p.high) (lit< tt) })
 
 mul-first-term : tie.Need-offset_bounds-at
@@ -34,8 +34,8 @@ array-read-first-term c = search rules
 
 first-term-requires : tie.Need-first_term-requires
 first-term-requires c κs =
-    let p = (start c.before.before).requires.0 in
-    rw (to_z-of_z (rise-fits c.before.before)) (placed-most (start c.before.before).args.place.0, abs≤⁺ p.low p.high, (start c.before.before).requires.1)
+    let p = (start c.before.before).requires in
+    rw (to_z-of_z (rise-fits c.before.before)) (placed-most (start c.before.before).args.place.0, abs≤⁺ p.low p.high)
 
 units-requires : tie.Need-units-requires
 units-requires c κs = rw c.first_term.ensures (search rules)
@@ -45,7 +45,7 @@ unfolding nearest
 returns told =
     let c = told.before in
     let read = c.before.before in
-    let p = (start read.before.before).requires.0 in
+    let p = (start read.before.before).requires in
     let fits : SFits w64 c.units.result.0 = search rules in
     let term = rw (to_z-of_z (rise-fits read.before.before)) at c.first_term.ensures in
     rw (to_z-of_z fits, c.units.ensures, term)

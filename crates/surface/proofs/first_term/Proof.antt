@@ -19,7 +19,7 @@ first_term_spec =
     tie.close
     (tie.spec
     (λ c. record { fits = omega (arith, mul-le-mul c.requires.0 c.requires.1) })
-    (λ c κs. (c.requires.1, c.requires.2))
+    (λ c κs. c.requires.1)
     (λ c. record { fits = omega (arith, product c) })
     small
     (λ c. rw (to_z-of_z (small c), c.known.ensures)))

@@ -13,17 +13,15 @@ use Rattle.surface.proofs.flux_at.Tie as tie
 
 above-requires : tie.Need-above-requires
 above-requires c κs =
-    let p = c.requires.0.reading in
+    let p = c.requires.reading in
     fit (limits p.surface ∷ limits p.air ∷ []) (raw 0 ⟨-⟩ raw 1) tt
 
 convection-requires : tie.Need-convection-first-requires
 convection-requires c κs =
-    let p = c.requires.0 in
+    let p = c.requires in
     let ks = limits p.reading.surface ∷ limits p.reading.air ∷ [] in
-    rw c.above.ensures (
-      record { place = omega (arithℤ, p.section.place.high); low = sub_nonneg p.reading.warmer; high = at_most ks (raw 0 ⟨-⟩ raw 1) tt },
-      c.requires.1,
-    )
+    rw c.above.ensures
+    (record { place = omega (arithℤ, p.section.place.high); low = sub_nonneg p.reading.warmer; high = at_most ks (raw 0 ⟨-⟩ raw 1) tt })
 
 degrees-requires : tie.Need-degrees-requires
 degrees-requires c κs = search rules
@@ -33,7 +31,7 @@ degrees-requires-2 c κs = search rules
 
 radiation-requires : tie.Need-radiation-second-requires
 radiation-requires c κs =
-    let p = c.requires.0.reading in
+    let p = c.requires.reading in
     rw (c.degrees.ensures, c.degrees-2.ensures) (record { surface = p.surface; air = p.air })
 
 both-requires : tie.Need-both-requires

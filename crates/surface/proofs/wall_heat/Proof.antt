@@ -20,7 +20,7 @@ lost-requires : tie.Need-lost-requires
 lost-requires c κs =
     let s = c.before in
     let flux = c.flux_at.ensures (wall_of s.args.reading) refl refl in
-    let ks = within flux.size ∷ limits s.requires.0.wall.section.area ∷ limits s.requires.0.stage.minutes ∷ [] in
+    let ks = within flux.size ∷ limits s.requires.wall.section.area ∷ limits s.requires.stage.minutes ∷ [] in
     record {
       one = fit ks (raw 0 ⟨*⟩ raw 1) tt;
       two = fit ks (raw 0 ⟨*⟩ raw 1 ⟨*⟩ raw 2) tt;
@@ -41,7 +41,7 @@ returns c =
     let at = flux.ensures w e₁ e₂ in
     let ten = ring (flux.result.0 ∷ a ∷ m ∷ []) (v 0 ⊗ v 1 ⊗ v 2 ⊗ # 6 ⊗ # 10) (v 0 ⊗ v 1 ⊗ v 2 ⊗ # 60) tt in
     let sixty = finer (times (times (times at.is a) m) (pos 60)) (joule / 10 ^ 16) in
-    rounded (within at.size ∷ limits s.requires.0.wall.section.area ∷ limits s.requires.0.stage.minutes ∷ [])
+    rounded (within at.size ∷ limits s.requires.wall.section.area ∷ limits s.requires.stage.minutes ∷ [])
     (raw 0 ⟨*⟩ raw 1 ⟨*⟩ raw 2 ⟨*⟩ num (pos 6)) (10 ^ 6) (joule / 10 ^ 6) tt
     (coarser 10 (same ten sixty)) (rw (c.joules.ensures, c.lost.ensures))
 
