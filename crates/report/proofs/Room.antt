@@ -10,7 +10,7 @@ use mir.Val.{Val, SFits}
 use denote.Array.{each}
 use denote.Shadow.{shadow}
 use denote.Signed.{SInt}
-use Rattle.text.specs.Decimal.{line, decimal}
+use Rattle.text.specs.Decimal.{line}
 use Rattle.text.proofs.Decimal.{length-line, i64_width}
 use Rattle.document.specs.Rules.{Every}
 use Rattle.formulas.specs.Items.{shuttle, heats}

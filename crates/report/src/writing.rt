@@ -42,10 +42,8 @@ fn length(figures: [i64; LINES]) -> usize
     ensures upper_bound { result ≤ report_most }
 {
     let mut n = 0;
-    let mut i = 0;
-    while i < LINES {
-        n += line_length(i, figures[i]);
-        i += 1;
+    for (i, figure) in figures.iter().enumerate() {
+        n += line_length(i, *figure);
     }
     n
 }
@@ -74,12 +72,10 @@ fn write_from(out: &mut [u8], first: usize, figures: &[i64]) -> usize
     let starts = STARTS;
     let mut start = starts[first] as usize;
     let mut at = 0;
-    let mut i = 0;
-    while i < figures.len() {
+    for (i, figure) in figures.iter().enumerate() {
         let end = starts[first + i + 1] as usize;
-        at = pen::line_at(out, at, &keys[start..end], figures[i]);
+        at = pen::line_at(out, at, &keys[start..end], *figure);
         start = end;
-        i += 1;
     }
     at
 }
