@@ -1,15 +1,11 @@
--- One line behind the other, each key the part of the table between two starts. Assumes nothing.
-use mathlib.Core.Path.{◌≡◌}
-use Prim.Native.Nat.{◌+◌}
-use lib.ListN.{take, drop}
-use Rattle.pen.specs.Writing.{Written}
+-- One line behind the other. Assumes nothing.
+use lib.ListN.{drop}
+use Rattle.std.specs.Iterator.Adapters.{zip_first, zip_second}
+use Rattle.std.specs.Slice.Iter.{iter_rest}
 use Rattle.formulas.specs.Items.{shuttle}
 use Rattle.formulas.specs.Report.{keys, lines_text}
-use Rattle.report.proofs.Keys.{start}
+use Rattle.report.proofs.Going.{Going}
 use Rattle.report.proofs.writing.write_from.Given as goal
 
-abbrev pub invariant-loop-i : goal.invariant-loop-i
-invariant-loop-i l = record {
-  begins : l.start ≡ start (l.first + l.i);
-  written : Written 0 (lines_text (drop l.first (keys shuttle)) (take l.i l.figures)) l.initial.out l.out l.at;
-}
+abbrev pub invariant-loop-key : goal.invariant-loop-key
+invariant-loop-key l = Going (lines_text (drop l.first (keys shuttle)) l.figures) l.initial.out l.out l.at (iter_rest (zip_first l.key-iterator)) (iter_rest (zip_second l.key-iterator))
