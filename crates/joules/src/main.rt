@@ -7,31 +7,22 @@ mod program;
 
 use program::print;
 use sheet::SHEET_MOST;
-use std::env::{Env, FillError};
 use std::io::Write;
+use streams::Words;
 
 // Room for the longest sheet and one byte more, so that a longer one is seen to be longer.
 const ROOM: usize = SHEET_MOST + 1;
 
+const WORDS: Words = Words {
+    usage: b"usage: joules < SHEET\nreads a sheet on standard input and prints its heats or its refusal; it takes no words and no file names\n",
+    unread: b"joules: the sheet could not be read\n",
+    unwritten: b"joules: the answer could not be written\n",
+};
+
 fn main(rt: HostRuntime) {
-    let mut stderr = rt.stderr();
-    // a word of any length is one: nothing of it is asked for but whether it is there
-    if !matches!(rt.arg(1, &mut []), Err(FillError::NotPresent)) {
-        let _ = stderr.write_all(
-            b"usage: joules < SHEET\nreads a sheet on standard input and prints its heats or its refusal; it takes no words and no file names\n",
-        );
-        return;
-    }
-    let mut room = [0u8; ROOM];
-    let sheet = streams::read_all(rt.stdin(), &mut room);
-    if sheet.failed {
-        let _ = stderr.write_all(b"joules: the sheet could not be read\n");
-        return;
-    }
-    let mut text = [0u8; 1024];
-    let k = print(&room, sheet.length, &mut text);
-    if rt.stdout().write_all(&text[..k]).is_ok() {
-        return;
-    }
-    let _ = stderr.write_all(b"joules: the answer could not be written\n");
+    streams::run(rt, &WORDS, &mut [0; ROOM], |room, n| {
+        let mut text = [0; 1024];
+        let k = print(room, n, &mut text);
+        rt.stdout().write_all(&text[..k])
+    });
 }

@@ -4,31 +4,22 @@
 #![tactic(auto)]
 
 use logger::BYTES_MOST;
-use std::env::{Env, FillError};
 use std::io::Write;
+use streams::Words;
 
 // Room for the most readings and one byte more, so that too many are seen to be too many.
 const ROOM: usize = BYTES_MOST + 1;
 
+const WORDS: Words = Words {
+    usage: b"usage: mean < READINGS\nreads a logger's readings on standard input and prints their mean or refusal; it takes no words and no file names\n",
+    unread: b"mean: the readings could not be read\n",
+    unwritten: b"mean: the answer could not be written\n",
+};
+
 fn main(rt: HostRuntime) {
-    let mut stderr = rt.stderr();
-    // a word of any length is one: nothing of it is asked for but whether it is there
-    if !matches!(rt.arg(1, &mut []), Err(FillError::NotPresent)) {
-        let _ = stderr.write_all(
-            b"usage: mean < READINGS\nreads a logger's readings on standard input and prints their mean or refusal; it takes no words and no file names\n",
-        );
-        return;
-    }
-    let mut room = [0u8; ROOM];
-    let readings = streams::read_all(rt.stdin(), &mut room);
-    if readings.failed {
-        let _ = stderr.write_all(b"mean: the readings could not be read\n");
-        return;
-    }
-    let mut text = [0u8; 64];
-    let k = logger::print(&room, readings.length, &mut text);
-    if rt.stdout().write_all(&text[..k]).is_ok() {
-        return;
-    }
-    let _ = stderr.write_all(b"mean: the answer could not be written\n");
+    streams::run(rt, &WORDS, &mut [0; ROOM], |room, n| {
+        let mut text = [0; 64];
+        let k = logger::print(room, n, &mut text);
+        rt.stdout().write_all(&text[..k])
+    });
 }

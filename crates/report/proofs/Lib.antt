@@ -3,3 +3,4 @@ pub mod Room
 pub mod Keys
 pub mod Lines
 pub mod Filling
+pub mod Going

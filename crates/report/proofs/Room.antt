@@ -10,11 +10,12 @@ use mir.Val.{Val, SFits}
 use denote.Array.{each}
 use denote.Shadow.{shadow}
 use denote.Signed.{SInt}
-use Rattle.text.specs.Decimal.{line, decimal}
+use Rattle.text.specs.Decimal.{line}
 use Rattle.text.proofs.Decimal.{length-line, i64_width}
 use Rattle.document.specs.Rules.{Every}
 use Rattle.formulas.specs.Items.{shuttle, heats}
 use Rattle.formulas.specs.Report.{lines, keys, heat_keys, lines_text}
+use Rattle.report.proofs.Keys.{keys-short}
 use Rattle.report.specs.Lengths.{key_most, line_most, report_most, heats_most}
 
 -- what an array of numbers tells of each of them
@@ -29,10 +30,6 @@ at_most [] zs p f = omega arith
 at_most (k ∷ ks) [] p f = omega arith
 at_most (k ∷ ks) (z ∷ zs) p f =
     omega (arith, length-append (line k z) (lines_text ks zs), length-line k z, i64_width z f.0, at_most ks zs p.1 f.1, p.0)
-
-keys-short : Every (λ k. length k ≤ key_most) (keys shuttle)
-unfolding keys lines heats
-keys-short = search rules
 
 heat-keys-short : Every (λ k. length k ≤ key_most) (heat_keys shuttle)
 unfolding heat_keys heats

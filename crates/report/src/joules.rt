@@ -34,10 +34,8 @@ pub fn figures(number: FiringNumber, product: Product, heats: [i64; HEATS]) -> [
 {
     let mut out = [0i64; LINES];
     out[FIRING] = number.0 as i64;
-    let mut i = 0;
-    while i < HEATS {
-        out[i + FIRST_HEAT] = per_tonne(heats[i], product);
-        i += 1;
+    for (i, heat) in heats.iter().enumerate() {
+        out[i + FIRST_HEAT] = per_tonne(*heat, product);
     }
     out[EFF1] = of_fuel(heats[USEFUL], heats[Q1]);
     out[EFF2] = of_fuel(heats[WITHSET], heats[Q1]);

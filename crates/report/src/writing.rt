@@ -1,5 +1,5 @@
 // The lines of a report: a key and its figure, one line behind the other.
-ghost use Rattle.std.specs.Prelude.{◌≡◌, ◌+◌, ◌≤◌, ◌<◌, [], leb, length, get_or, drop};
+ghost use Rattle.std.specs.Prelude.{◌≡◌, ◌+◌, ◌≤◌, leb, length, drop};
 ghost use Rattle.std.specs.Int.{w64};
 ghost use Rattle.std.proofs.Common.{SFits};
 ghost use Rattle.text.specs.Decimal.{line};
@@ -7,7 +7,7 @@ ghost use Rattle.pen.specs.Writing.{Written};
 ghost use Rattle.document.specs.Rules.{Every};
 ghost use Rattle.formulas.specs.Items.{shuttle};
 ghost use Rattle.formulas.specs.Report.{keys, heat_keys, line_count, lines_text};
-ghost use Rattle.report.specs.Lengths.{line_most, report_most, heats_most};
+ghost use Rattle.report.specs.Lengths.{key_most, line_most, report_most, heats_most};
 
 use crate::{FIRST_HEAT, LINES};
 use heat::HEATS;
@@ -18,34 +18,29 @@ const LINE_MOST: usize = 30;
 // No report is longer.
 const MOST: usize = LINES * LINE_MOST;
 
-// The keys, one after the other, and where each begins.
-const KEYS: [u8; 59] = *b"firingq1q2q3q5q8inx1x2x3x5x7x8x9x10x11usefulwithseteff1eff2";
-
-// So written for the compiler: docs/DECISIONS.md, "Where a key begins is a byte".
-const STARTS: [u8; LINES + 1] = [
-    0, 6, 8, 10, 12, 14, 16, 18, 20, 22, 24, 26, 28, 30, 32, 35, 38, 44, 51, 55, 59,
+// The keys of the lines, in their order.
+const KEYS: [&[u8]; LINES] = [
+    b"firing", b"q1", b"q2", b"q3", b"q5", b"q8", b"in", b"x1", b"x2", b"x3", b"x5", b"x7", b"x8",
+    b"x9", b"x10", b"x11", b"useful", b"withset", b"eff1", b"eff2",
 ];
 
-// How long one line is, by its number.
-fn line_length(i: usize, figure: i64) -> usize
-    requires { i < line_count shuttle }
-    ensures value { result ≡ length (line (get_or (keys shuttle) i []) figure) }
+// How long one line is.
+fn line_length(key: &[u8], figure: i64) -> usize
+    requires { length key.now ≤ key_most }
+    ensures value { result ≡ length (line key.now figure) }
     ensures upper_bound { result ≤ line_most }
 {
-    let key = STARTS[i + 1] - STARTS[i];
-    key as usize + pen::width(figure) + 2
+    key.len() + pen::width(figure) + 2
 }
 
 // How long the report is.
-fn length(figures: [i64; LINES]) -> usize
-    ensures value { result ≡ length (lines_text (keys shuttle) figures) }
+fn length(figures: &[i64]) -> usize
+    ensures value { result ≡ length (lines_text (keys shuttle) figures.now) }
     ensures upper_bound { result ≤ report_most }
 {
     let mut n = 0;
-    let mut i = 0;
-    while i < LINES {
-        n += line_length(i, figures[i]);
-        i += 1;
+    for (key, figure) in KEYS.iter().zip(figures) {
+        n += line_length(key, *figure);
     }
     n
 }
@@ -60,7 +55,7 @@ pub fn fits(figures: &[i64; LINES], room: usize) -> bool
     if MOST <= room {
         return true;
     }
-    length(*figures) <= room
+    length(figures) <= room
 }
 
 // Puts a line for each figure at the front, from the line of that number on, and answers how long they are.
@@ -69,17 +64,9 @@ fn write_from(out: &mut [u8], first: usize, figures: &[i64]) -> usize
     requires figures_in_bounds { length (lines_text (drop first (keys shuttle)) figures.now) ≤ length out.old }
     ensures { Written 0 (lines_text (drop first (keys shuttle)) figures.now) out.old out.new result }
 {
-    // So written for the compiler: docs/DECISIONS.md, "A constant array is bound before a loop".
-    let keys = KEYS;
-    let starts = STARTS;
-    let mut start = starts[first] as usize;
     let mut at = 0;
-    let mut i = 0;
-    while i < figures.len() {
-        let end = starts[first + i + 1] as usize;
-        at = pen::line_at(out, at, &keys[start..end], figures[i]);
-        start = end;
-        i += 1;
+    for (key, figure) in KEYS[first..].iter().zip(figures) {
+        at = pen::line_at(out, at, key, *figure);
     }
     at
 }
