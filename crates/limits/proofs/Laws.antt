@@ -53,6 +53,17 @@ module _ {least greatest v : ℤ} where
         value ≡ least → after ≡ first_fault fault field → Measured least greatest v fault field value after
     missed e p q = record { amount = rw e p; first = rw e q }
 
+  module _ {fault : ℕ} {value : ℤ} where
+    -- The same by what a number between its limits, or not between them, is.
+    pub taken : (field : ℕ) → least ≤ℤ v → v ≤ℤ greatest → value ≡ v → Measured least greatest v fault field value fault
+    taken field low high p = met (ranged (record { low = low; high = high })) p refl
+
+    pub refused :
+        {field after : ℕ} → (least ≤ℤ v → v ≤ℤ greatest → ⊥) →
+        value ≡ least → after ≡ first_fault fault field → Measured least greatest v fault field value after
+    refused out p q =
+        either (in_range least greatest v) (λ e. let b = between e in absurd (out b.low b.high)) (λ e. missed e p q)
+
 none_before : (field : ℕ) → first_fault 0 field ≡ field
 unfolding first_fault
 none_before field = refl

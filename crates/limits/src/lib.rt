@@ -1,27 +1,21 @@
 // What every checking constructor does with a number: hold it to its limits, and keep the first fault.
 //
-// The constructors stand in `quantity`, one for each type. This is a crate of its own, so that what its contracts rule out is tried
-// without all of them. `proofs/Laws.antt` has what a constructor's callers may conclude.
+// The quantities stand in `quantity`, each an `impl` of one of the two traits. This is a crate of its own, so that what its contracts rule
+// out is tried without all of them. `proofs/Laws.antt` has what a constructor's callers may conclude.
 #![tactic(auto)]
 
-ghost use Rattle.std.specs.Prelude.{◌≡◌};
+ghost use Rattle.std.specs.Prelude.{◌≡◌, ◌≤◌, ◌≤ℤ◌, ℕ, ℤ, pos, MatchOption};
 ghost use Rattle.limits.specs.Checked.{Measured, Counted, first_fault};
 
 // A number as the sheet gives it, before it is known to be a quantity.
 #[derive(Clone, Copy)]
 pub struct Number(pub i64);
 
-// A number within its limits, and the first fault, 0 for none.
+// The fault stands beside the value and not in its place: outside its limits the least is handed out with it (`Measured`, specs/Checked).
+// A quantity within its limits, and the first field so far that was outside its own, 0 for none.
 #[derive(Drop)]
-pub struct MeasuredRead {
-    pub value: i32,
-    pub fault: usize,
-}
-
-// A number of things, an index or a code within its limits, and the first fault, 0 for none.
-#[derive(Drop)]
-pub struct CountedRead {
-    pub count: usize,
+pub struct Checked<Q> {
+    pub value: Q,
     pub fault: usize,
 }
 
@@ -32,36 +26,102 @@ fn first_fault(fault: usize, field: usize) -> usize
     if fault == 0 { field } else { fault }
 }
 
-// The work of every constructor of a measured quantity, which is kept in 32 bits.
-pub fn measured(v: Number, least: i32, greatest: i32, fault: usize, field: usize) -> MeasuredRead
-    ensures { Measured least greatest v.0 fault field result.value result.fault }
+// The number that is given, where it lies between two limits, both of them included.
+fn measured(v: Number, least: i32, greatest: i32) -> Option<i32>
+    ensures { MatchOption result (least ≤ℤ v.0 → v.0 ≤ℤ greatest → ⊥) (λ units. (least ≤ℤ units) × (units ≤ℤ greatest) × (units ≡ v.0)) }
 {
     let given = v.0;
     if least as i64 <= given && given <= greatest as i64 {
-        return MeasuredRead {
-            value: given as i32,
-            fault,
-        };
+        return Some(given as i32);
     }
-    MeasuredRead {
-        value: least,
-        fault: first_fault(fault, field),
-    }
+    None
 }
 
-// The work of every constructor of a counted quantity.
-pub fn counted(v: Number, least: usize, greatest: usize, fault: usize, field: usize) -> CountedRead
-    ensures { Counted least greatest v.0 fault field result.count result.fault }
+// The same of a count, which has no sign.
+fn counted(v: Number, least: usize, greatest: usize) -> Option<usize>
+    ensures { MatchOption result (pos least ≤ℤ v.0 → v.0 ≤ℤ pos greatest → ⊥)
+        (λ number. (least ≤ number) × (number ≤ greatest) × (pos number ≡ v.0)) }
 {
     let given = v.0;
     if given >= 0 {
-        let n = given as usize;
-        if least <= n && n <= greatest {
-            return CountedRead { count: n, fault };
+        let number = given as usize;
+        if least <= number && number <= greatest {
+            return Some(number);
         }
     }
-    CountedRead {
-        count: least,
-        fault: first_fault(fault, field),
+    None
+}
+
+// A measured quantity has a sign, and its limits fit 32 bits.
+pub trait Measure: Drop {
+    const LEAST: i32;
+
+    const GREATEST: i32;
+
+    ghost LEAST: { ℤ };
+
+    ghost GREATEST: { ℤ };
+
+    // How many units a quantity is.
+    ghost amount: { Self → ℤ };
+
+    // A quantity of so many units.
+    fn of(units: i32) -> Self
+        requires { (LEAST ≤ℤ units) × (units ≤ℤ GREATEST) }
+        ensures { amount result ≡ units };
+
+    // Holds a number of the sheet to the limits: outside them the least stands for it, and the field is the fault unless there was one.
+    fn checked(v: Number, fault: usize, field: usize) -> Checked<Self>
+        ensures { Measured LEAST GREATEST v.0 fault field (amount result.value) result.fault }
+    {
+        match measured(v, Self::LEAST, Self::GREATEST) {
+            Some(units) => Checked {
+                value: Self::of(units),
+                fault,
+            },
+            None => Checked {
+                value: Self::of(Self::LEAST),
+                fault: first_fault(fault, field),
+            },
+        }
     }
+
+    ghost ordered: { LEAST ≤ℤ GREATEST };
+}
+
+// A counted quantity, an index or a code has none.
+pub trait Count: Drop {
+    const LEAST: usize;
+
+    const GREATEST: usize;
+
+    ghost LEAST: { ℕ };
+
+    ghost GREATEST: { ℕ };
+
+    // The number that a quantity is.
+    ghost amount: { Self → ℕ };
+
+    // A quantity of this number.
+    fn numbered(number: usize) -> Self
+        requires { (LEAST ≤ number) × (number ≤ GREATEST) }
+        ensures { amount result ≡ number };
+
+    // Holds a number of the sheet to the limits, as a measured quantity is held to its own.
+    fn checked(v: Number, fault: usize, field: usize) -> Checked<Self>
+        ensures { Counted LEAST GREATEST v.0 fault field (amount result.value) result.fault }
+    {
+        match counted(v, Self::LEAST, Self::GREATEST) {
+            Some(number) => Checked {
+                value: Self::numbered(number),
+                fault,
+            },
+            None => Checked {
+                value: Self::numbered(Self::LEAST),
+                fault: first_fault(fault, field),
+            },
+        }
+    }
+
+    ghost ordered: { LEAST ≤ GREATEST };
 }

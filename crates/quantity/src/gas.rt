@@ -1,32 +1,28 @@
 // The fuel, the air that burns it and the flue gas that leaves.
-ghost use Rattle.limits.specs.Checked.{Measured};
+ghost use Rattle.std.specs.Prelude.{pos};
+ghost use Rattle.std.proofs.Common.{rules};
 
-use limits::{Number, measured};
+use limits::Measure;
 
 // The share of one gas in the fuel, in 0.01 %.
 #[derive(Clone, Copy)]
 pub struct Share(pub i32);
 
-#[derive(Drop)]
-pub struct ShareRead {
-    pub value: Share,
-    pub fault: usize,
-}
+impl Measure for Share {
+    const LEAST: i32 = 0;
 
-impl Share {
-    pub const LEAST: i32 = 0;
+    const GREATEST: i32 = 10_000;
 
-    pub const GREATEST: i32 = 10_000;
+    ghost LEAST = { pos 0 };
 
-    // Checks one of the thirteen shares of the line `gas`.
-    pub fn checked(v: Number, fault: usize, field: usize) -> ShareRead
-        ensures { Measured Share.LEAST Share.GREATEST v.0 fault field result.value.0 result.fault }
-    {
-        let read = measured(v, Share::LEAST, Share::GREATEST, fault, field);
-        ShareRead {
-            value: Share(read.value),
-            fault: read.fault,
-        }
+    ghost GREATEST = { pos 10000 };
+
+    ghost amount = { λ held. held.0 };
+
+    ghost ordered = { Prim.search rules };
+
+    fn of(units: i32) -> Share {
+        Share(units)
     }
 }
 
@@ -34,26 +30,21 @@ impl Share {
 #[derive(Clone, Copy)]
 pub struct Moisture(pub i32);
 
-#[derive(Drop)]
-pub struct MoistureRead {
-    pub value: Moisture,
-    pub fault: usize,
-}
+impl Measure for Moisture {
+    const LEAST: i32 = 0;
 
-impl Moisture {
-    pub const LEAST: i32 = 0;
+    const GREATEST: i32 = 500;
 
-    pub const GREATEST: i32 = 500;
+    ghost LEAST = { pos 0 };
 
-    // Checks the field of the line `air`.
-    pub fn checked(v: Number, fault: usize, field: usize) -> MoistureRead
-        ensures { Measured Moisture.LEAST Moisture.GREATEST v.0 fault field result.value.0 result.fault }
-    {
-        let read = measured(v, Moisture::LEAST, Moisture::GREATEST, fault, field);
-        MoistureRead {
-            value: Moisture(read.value),
-            fault: read.fault,
-        }
+    ghost GREATEST = { pos 500 };
+
+    ghost amount = { λ held. held.0 };
+
+    ghost ordered = { Prim.search rules };
+
+    fn of(units: i32) -> Moisture {
+        Moisture(units)
     }
 }
 
@@ -61,26 +52,21 @@ impl Moisture {
 #[derive(Clone, Copy)]
 pub struct CubicMetres(pub i32);
 
-#[derive(Drop)]
-pub struct CubicMetresRead {
-    pub value: CubicMetres,
-    pub fault: usize,
-}
+impl Measure for CubicMetres {
+    const LEAST: i32 = 0;
 
-impl CubicMetres {
-    pub const LEAST: i32 = 0;
+    const GREATEST: i32 = 200_000;
 
-    pub const GREATEST: i32 = 200_000;
+    ghost LEAST = { pos 0 };
 
-    // Checks the gas of a line `stage`.
-    pub fn checked(v: Number, fault: usize, field: usize) -> CubicMetresRead
-        ensures { Measured CubicMetres.LEAST CubicMetres.GREATEST v.0 fault field result.value.0 result.fault }
-    {
-        let read = measured(v, CubicMetres::LEAST, CubicMetres::GREATEST, fault, field);
-        CubicMetresRead {
-            value: CubicMetres(read.value),
-            fault: read.fault,
-        }
+    ghost GREATEST = { pos 200000 };
+
+    ghost amount = { λ held. held.0 };
+
+    ghost ordered = { Prim.search rules };
+
+    fn of(units: i32) -> CubicMetres {
+        CubicMetres(units)
     }
 }
 
@@ -88,26 +74,21 @@ impl CubicMetres {
 #[derive(Clone, Copy)]
 pub struct GasTotal(pub i32);
 
-#[derive(Drop)]
-pub struct GasTotalRead {
-    pub value: GasTotal,
-    pub fault: usize,
-}
+impl Measure for GasTotal {
+    const LEAST: i32 = 100;
 
-impl GasTotal {
-    pub const LEAST: i32 = 100;
+    const GREATEST: i32 = 200_000;
 
-    pub const GREATEST: i32 = 200_000;
+    ghost LEAST = { pos 100 };
 
-    // Checks the sum of the gas of the lines `stage`.
-    pub fn checked(v: Number, fault: usize, field: usize) -> GasTotalRead
-        ensures { Measured GasTotal.LEAST GasTotal.GREATEST v.0 fault field result.value.0 result.fault }
-    {
-        let read = measured(v, GasTotal::LEAST, GasTotal::GREATEST, fault, field);
-        GasTotalRead {
-            value: GasTotal(read.value),
-            fault: read.fault,
-        }
+    ghost GREATEST = { pos 200000 };
+
+    ghost amount = { λ held. held.0 };
+
+    ghost ordered = { Prim.search rules };
+
+    fn of(units: i32) -> GasTotal {
+        GasTotal(units)
     }
 }
 
@@ -115,26 +96,21 @@ impl GasTotal {
 #[derive(Clone, Copy)]
 pub struct ExcessAir(pub i32);
 
-#[derive(Drop)]
-pub struct ExcessAirRead {
-    pub value: ExcessAir,
-    pub fault: usize,
-}
+impl Measure for ExcessAir {
+    const LEAST: i32 = 1_000;
 
-impl ExcessAir {
-    pub const LEAST: i32 = 1_000;
+    const GREATEST: i32 = 5_000;
 
-    pub const GREATEST: i32 = 5_000;
+    ghost LEAST = { pos 1000 };
 
-    // Checks the excess air of a line `stage`.
-    pub fn checked(v: Number, fault: usize, field: usize) -> ExcessAirRead
-        ensures { Measured ExcessAir.LEAST ExcessAir.GREATEST v.0 fault field result.value.0 result.fault }
-    {
-        let read = measured(v, ExcessAir::LEAST, ExcessAir::GREATEST, fault, field);
-        ExcessAirRead {
-            value: ExcessAir(read.value),
-            fault: read.fault,
-        }
+    ghost GREATEST = { pos 5000 };
+
+    ghost amount = { λ held. held.0 };
+
+    ghost ordered = { Prim.search rules };
+
+    fn of(units: i32) -> ExcessAir {
+        ExcessAir(units)
     }
 }
 
@@ -143,32 +119,21 @@ impl ExcessAir {
 #[derive(Clone, Copy)]
 pub struct CarbonMonoxide(pub i16);
 
-#[derive(Drop)]
-pub struct CarbonMonoxideRead {
-    pub value: CarbonMonoxide,
-    pub fault: usize,
-}
+impl Measure for CarbonMonoxide {
+    const LEAST: i32 = 0;
 
-impl CarbonMonoxide {
-    pub const LEAST: i32 = 0;
+    const GREATEST: i32 = 1_000;
 
-    pub const GREATEST: i32 = 1_000;
+    ghost LEAST = { pos 0 };
 
-    // Checks the carbon monoxide of a line `stage`.
-    pub fn checked(v: Number, fault: usize, field: usize) -> CarbonMonoxideRead
-        ensures { Measured CarbonMonoxide.LEAST CarbonMonoxide.GREATEST v.0 fault field result.value.0 result.fault }
-    {
-        let read = measured(
-            v,
-            CarbonMonoxide::LEAST,
-            CarbonMonoxide::GREATEST,
-            fault,
-            field,
-        );
-        CarbonMonoxideRead {
-            value: CarbonMonoxide(read.value as i16),
-            fault: read.fault,
-        }
+    ghost GREATEST = { pos 1000 };
+
+    ghost amount = { λ held. held.0 };
+
+    ghost ordered = { Prim.search rules };
+
+    fn of(units: i32) -> CarbonMonoxide {
+        CarbonMonoxide(units as i16)
     }
 }
 
@@ -177,26 +142,21 @@ impl CarbonMonoxide {
 #[derive(Clone, Copy)]
 pub struct Dioxides(pub i16);
 
-#[derive(Drop)]
-pub struct DioxidesRead {
-    pub value: Dioxides,
-    pub fault: usize,
-}
+impl Measure for Dioxides {
+    const LEAST: i32 = 0;
 
-impl Dioxides {
-    pub const LEAST: i32 = 0;
+    const GREATEST: i32 = 2_500;
 
-    pub const GREATEST: i32 = 2_500;
+    ghost LEAST = { pos 0 };
 
-    // Checks the pair of a line `stage` of sheet 2.
-    pub fn checked(v: Number, fault: usize, field: usize) -> DioxidesRead
-        ensures { Measured Dioxides.LEAST Dioxides.GREATEST v.0 fault field result.value.0 result.fault }
-    {
-        let read = measured(v, Dioxides::LEAST, Dioxides::GREATEST, fault, field);
-        DioxidesRead {
-            value: Dioxides(read.value as i16),
-            fault: read.fault,
-        }
+    ghost GREATEST = { pos 2500 };
+
+    ghost amount = { λ held. held.0 };
+
+    ghost ordered = { Prim.search rules };
+
+    fn of(units: i32) -> Dioxides {
+        Dioxides(units as i16)
     }
 }
 
@@ -205,25 +165,20 @@ impl Dioxides {
 #[derive(Clone, Copy)]
 pub struct Oxygen(pub i16);
 
-#[derive(Drop)]
-pub struct OxygenRead {
-    pub value: Oxygen,
-    pub fault: usize,
-}
+impl Measure for Oxygen {
+    const LEAST: i32 = 0;
 
-impl Oxygen {
-    pub const LEAST: i32 = 0;
+    const GREATEST: i32 = 2_100;
 
-    pub const GREATEST: i32 = 2_100;
+    ghost LEAST = { pos 0 };
 
-    // Checks the oxygen of a line `stage` of sheet 2.
-    pub fn checked(v: Number, fault: usize, field: usize) -> OxygenRead
-        ensures { Measured Oxygen.LEAST Oxygen.GREATEST v.0 fault field result.value.0 result.fault }
-    {
-        let read = measured(v, Oxygen::LEAST, Oxygen::GREATEST, fault, field);
-        OxygenRead {
-            value: Oxygen(read.value as i16),
-            fault: read.fault,
-        }
+    ghost GREATEST = { pos 2100 };
+
+    ghost amount = { λ held. held.0 };
+
+    ghost ordered = { Prim.search rules };
+
+    fn of(units: i32) -> Oxygen {
+        Oxygen(units as i16)
     }
 }

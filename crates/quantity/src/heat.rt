@@ -1,35 +1,29 @@
 // What heat is worth: of the fuel, of a material, and in joules.
-ghost use Rattle.std.specs.Prelude.{◌≡◌, ◌+ℤ◌, ◌-ℤ◌};
+ghost use Rattle.std.specs.Prelude.{◌≡◌, ◌+ℤ◌, ◌-ℤ◌, pos};
 ghost use Rattle.std.specs.Int.{w64};
-ghost use Rattle.std.proofs.Common.{SFits};
-ghost use Rattle.limits.specs.Checked.{Measured};
+ghost use Rattle.std.proofs.Common.{SFits, rules};
 
-use limits::{Number, measured};
+use limits::Measure;
 
 // The heat in the fuel, in kilojoules per cubic metre.
 #[derive(Clone, Copy)]
 pub struct HeatingValue(pub i32);
 
-#[derive(Drop)]
-pub struct HeatingValueRead {
-    pub value: HeatingValue,
-    pub fault: usize,
-}
+impl Measure for HeatingValue {
+    const LEAST: i32 = 3_000;
 
-impl HeatingValue {
-    pub const LEAST: i32 = 3_000;
+    const GREATEST: i32 = 130_000;
 
-    pub const GREATEST: i32 = 130_000;
+    ghost LEAST = { pos 3000 };
 
-    // Checks the heating value of the line `fuel`.
-    pub fn checked(v: Number, fault: usize, field: usize) -> HeatingValueRead
-        ensures { Measured HeatingValue.LEAST HeatingValue.GREATEST v.0 fault field result.value.0 result.fault }
-    {
-        let read = measured(v, HeatingValue::LEAST, HeatingValue::GREATEST, fault, field);
-        HeatingValueRead {
-            value: HeatingValue(read.value),
-            fault: read.fault,
-        }
+    ghost GREATEST = { pos 130000 };
+
+    ghost amount = { λ held. held.0 };
+
+    ghost ordered = { Prim.search rules };
+
+    fn of(units: i32) -> HeatingValue {
+        HeatingValue(units)
     }
 }
 
@@ -37,26 +31,21 @@ impl HeatingValue {
 #[derive(Clone, Copy)]
 pub struct SpecificHeat(pub i32);
 
-#[derive(Drop)]
-pub struct SpecificHeatRead {
-    pub value: SpecificHeat,
-    pub fault: usize,
-}
+impl Measure for SpecificHeat {
+    const LEAST: i32 = 0;
 
-impl SpecificHeat {
-    pub const LEAST: i32 = 0;
+    const GREATEST: i32 = 100_000;
 
-    pub const GREATEST: i32 = 100_000;
+    ghost LEAST = { pos 0 };
 
-    // Checks c of a line `ware`, `setter` or `part`.
-    pub fn checked(v: Number, fault: usize, field: usize) -> SpecificHeatRead
-        ensures { Measured SpecificHeat.LEAST SpecificHeat.GREATEST v.0 fault field result.value.0 result.fault }
-    {
-        let read = measured(v, SpecificHeat::LEAST, SpecificHeat::GREATEST, fault, field);
-        SpecificHeatRead {
-            value: SpecificHeat(read.value),
-            fault: read.fault,
-        }
+    ghost GREATEST = { pos 100000 };
+
+    ghost amount = { λ held. held.0 };
+
+    ghost ordered = { Prim.search rules };
+
+    fn of(units: i32) -> SpecificHeat {
+        SpecificHeat(units)
     }
 }
 

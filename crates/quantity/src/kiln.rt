@@ -1,33 +1,29 @@
 // The stages of a firing and the sections of the kiln.
-ghost use Rattle.limits.specs.Checked.{Measured, Counted};
+ghost use Rattle.std.specs.Prelude.{pos};
+ghost use Rattle.std.proofs.Common.{rules};
 
 use crate::sheet::StageCount;
-use limits::{Number, counted, measured};
+use limits::{Count, Measure};
 
 // A stage by its place among the lines `stage`.
 #[derive(Clone, Copy)]
 pub struct StageNumber(pub usize);
 
-#[derive(Drop)]
-pub struct StageNumberRead {
-    pub value: StageNumber,
-    pub fault: usize,
-}
+impl Count for StageNumber {
+    const LEAST: usize = 1;
 
-impl StageNumber {
-    pub const LEAST: usize = 1;
+    const GREATEST: usize = StageCount::GREATEST;
 
-    pub const GREATEST: usize = StageCount::GREATEST;
+    ghost LEAST = { 1 };
 
-    // Checks the stage of a line `wall`.
-    pub fn checked(v: Number, fault: usize, field: usize) -> StageNumberRead
-        ensures { Counted StageNumber.LEAST StageNumber.GREATEST v.0 fault field result.value.0 result.fault }
-    {
-        let read = counted(v, StageNumber::LEAST, StageNumber::GREATEST, fault, field);
-        StageNumberRead {
-            value: StageNumber(read.count),
-            fault: read.fault,
-        }
+    ghost GREATEST = { 12 };
+
+    ghost amount = { λ held. held.0 };
+
+    ghost ordered = { Prim.search rules };
+
+    fn numbered(number: usize) -> StageNumber {
+        StageNumber(number)
     }
 }
 
@@ -36,26 +32,21 @@ impl StageNumber {
 #[derive(Clone, Copy)]
 pub struct Minutes(pub i16);
 
-#[derive(Drop)]
-pub struct MinutesRead {
-    pub value: Minutes,
-    pub fault: usize,
-}
+impl Measure for Minutes {
+    const LEAST: i32 = 1;
 
-impl Minutes {
-    pub const LEAST: i32 = 1;
+    const GREATEST: i32 = 2_880;
 
-    pub const GREATEST: i32 = 2_880;
+    ghost LEAST = { pos 1 };
 
-    // Checks the minutes of a line `stage`.
-    pub fn checked(v: Number, fault: usize, field: usize) -> MinutesRead
-        ensures { Measured Minutes.LEAST Minutes.GREATEST v.0 fault field result.value.0 result.fault }
-    {
-        let read = measured(v, Minutes::LEAST, Minutes::GREATEST, fault, field);
-        MinutesRead {
-            value: Minutes(read.value as i16),
-            fault: read.fault,
-        }
+    ghost GREATEST = { pos 2880 };
+
+    ghost amount = { λ held. held.0 };
+
+    ghost ordered = { Prim.search rules };
+
+    fn of(units: i32) -> Minutes {
+        Minutes(units as i16)
     }
 }
 
@@ -63,32 +54,21 @@ impl Minutes {
 #[derive(Clone, Copy)]
 pub struct SectionNumber(pub usize);
 
-#[derive(Drop)]
-pub struct SectionNumberRead {
-    pub value: SectionNumber,
-    pub fault: usize,
-}
+impl Count for SectionNumber {
+    const LEAST: usize = 1;
 
-impl SectionNumber {
-    pub const LEAST: usize = 1;
+    const GREATEST: usize = 999;
 
-    pub const GREATEST: usize = 999;
+    ghost LEAST = { 1 };
 
-    // Checks the section number of a line `section` or `wall`.
-    pub fn checked(v: Number, fault: usize, field: usize) -> SectionNumberRead
-        ensures { Counted SectionNumber.LEAST SectionNumber.GREATEST v.0 fault field result.value.0 result.fault }
-    {
-        let read = counted(
-            v,
-            SectionNumber::LEAST,
-            SectionNumber::GREATEST,
-            fault,
-            field,
-        );
-        SectionNumberRead {
-            value: SectionNumber(read.count),
-            fault: read.fault,
-        }
+    ghost GREATEST = { 999 };
+
+    ghost amount = { λ held. held.0 };
+
+    ghost ordered = { Prim.search rules };
+
+    fn numbered(number: usize) -> SectionNumber {
+        SectionNumber(number)
     }
 }
 
@@ -96,26 +76,21 @@ impl SectionNumber {
 #[derive(Clone, Copy)]
 pub struct SectionPlace(pub usize);
 
-#[derive(Drop)]
-pub struct SectionPlaceRead {
-    pub value: SectionPlace,
-    pub fault: usize,
-}
+impl Count for SectionPlace {
+    const LEAST: usize = 1;
 
-impl SectionPlace {
-    pub const LEAST: usize = 1;
+    const GREATEST: usize = 3;
 
-    pub const GREATEST: usize = 3;
+    ghost LEAST = { 1 };
 
-    // Checks the place of a line `section`.
-    pub fn checked(v: Number, fault: usize, field: usize) -> SectionPlaceRead
-        ensures { Counted SectionPlace.LEAST SectionPlace.GREATEST v.0 fault field result.value.0 result.fault }
-    {
-        let read = counted(v, SectionPlace::LEAST, SectionPlace::GREATEST, fault, field);
-        SectionPlaceRead {
-            value: SectionPlace(read.count),
-            fault: read.fault,
-        }
+    ghost GREATEST = { 3 };
+
+    ghost amount = { λ held. held.0 };
+
+    ghost ordered = { Prim.search rules };
+
+    fn numbered(number: usize) -> SectionPlace {
+        SectionPlace(number)
     }
 }
 
@@ -123,26 +98,21 @@ impl SectionPlace {
 #[derive(Clone, Copy)]
 pub struct Area(pub i32);
 
-#[derive(Drop)]
-pub struct AreaRead {
-    pub value: Area,
-    pub fault: usize,
-}
+impl Measure for Area {
+    const LEAST: i32 = 1;
 
-impl Area {
-    pub const LEAST: i32 = 1;
+    const GREATEST: i32 = 20_000;
 
-    pub const GREATEST: i32 = 20_000;
+    ghost LEAST = { pos 1 };
 
-    // Checks the area of a line `section`.
-    pub fn checked(v: Number, fault: usize, field: usize) -> AreaRead
-        ensures { Measured Area.LEAST Area.GREATEST v.0 fault field result.value.0 result.fault }
-    {
-        let read = measured(v, Area::LEAST, Area::GREATEST, fault, field);
-        AreaRead {
-            value: Area(read.value),
-            fault: read.fault,
-        }
+    ghost GREATEST = { pos 20000 };
+
+    ghost amount = { λ held. held.0 };
+
+    ghost ordered = { Prim.search rules };
+
+    fn of(units: i32) -> Area {
+        Area(units)
     }
 }
 
@@ -150,25 +120,20 @@ impl Area {
 #[derive(Clone, Copy)]
 pub struct Material(pub u32);
 
-#[derive(Drop)]
-pub struct MaterialRead {
-    pub value: Material,
-    pub fault: usize,
-}
+impl Count for Material {
+    const LEAST: usize = 0;
 
-impl Material {
-    pub const LEAST: usize = 0;
+    const GREATEST: usize = 18;
 
-    pub const GREATEST: usize = 18;
+    ghost LEAST = { 0 };
 
-    // Checks the material of a line `ware`, `setter` or `part`.
-    pub fn checked(v: Number, fault: usize, field: usize) -> MaterialRead
-        ensures { Counted Material.LEAST Material.GREATEST v.0 fault field result.value.0 result.fault }
-    {
-        let read = counted(v, Material::LEAST, Material::GREATEST, fault, field);
-        MaterialRead {
-            value: Material(read.count as u32),
-            fault: read.fault,
-        }
+    ghost GREATEST = { 18 };
+
+    ghost amount = { λ held. held.0 };
+
+    ghost ordered = { Prim.search rules };
+
+    fn numbered(number: usize) -> Material {
+        Material(number as u32)
     }
 }

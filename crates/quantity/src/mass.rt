@@ -1,32 +1,28 @@
 // Masses.
-ghost use Rattle.limits.specs.Checked.{Measured};
+ghost use Rattle.std.specs.Prelude.{pos};
+ghost use Rattle.std.proofs.Common.{rules};
 
-use limits::{Number, measured};
+use limits::Measure;
 
 // The fired ware of a firing, in tenths of a kilogram.
 #[derive(Clone, Copy)]
 pub struct Product(pub i32);
 
-#[derive(Drop)]
-pub struct ProductRead {
-    pub value: Product,
-    pub fault: usize,
-}
+impl Measure for Product {
+    const LEAST: i32 = 1_000;
 
-impl Product {
-    pub const LEAST: i32 = 1_000;
+    const GREATEST: i32 = 1_000_000;
 
-    pub const GREATEST: i32 = 1_000_000;
+    ghost LEAST = { pos 1000 };
 
-    // Checks the field of the line `product`.
-    pub fn checked(v: Number, fault: usize, field: usize) -> ProductRead
-        ensures { Measured Product.LEAST Product.GREATEST v.0 fault field result.value.0 result.fault }
-    {
-        let read = measured(v, Product::LEAST, Product::GREATEST, fault, field);
-        ProductRead {
-            value: Product(read.value),
-            fault: read.fault,
-        }
+    ghost GREATEST = { pos 1000000 };
+
+    ghost amount = { λ held. held.0 };
+
+    ghost ordered = { Prim.search rules };
+
+    fn of(units: i32) -> Product {
+        Product(units)
     }
 }
 
@@ -34,25 +30,20 @@ impl Product {
 #[derive(Clone, Copy)]
 pub struct Kilos(pub i32);
 
-#[derive(Drop)]
-pub struct KilosRead {
-    pub value: Kilos,
-    pub fault: usize,
-}
+impl Measure for Kilos {
+    const LEAST: i32 = 0;
 
-impl Kilos {
-    pub const LEAST: i32 = 0;
+    const GREATEST: i32 = 1_000_000;
 
-    pub const GREATEST: i32 = 1_000_000;
+    ghost LEAST = { pos 0 };
 
-    // Checks a mass of a line `ware`, `water`, `clay`, `setter` or `part`.
-    pub fn checked(v: Number, fault: usize, field: usize) -> KilosRead
-        ensures { Measured Kilos.LEAST Kilos.GREATEST v.0 fault field result.value.0 result.fault }
-    {
-        let read = measured(v, Kilos::LEAST, Kilos::GREATEST, fault, field);
-        KilosRead {
-            value: Kilos(read.value),
-            fault: read.fault,
-        }
+    ghost GREATEST = { pos 1000000 };
+
+    ghost amount = { λ held. held.0 };
+
+    ghost ordered = { Prim.search rules };
+
+    fn of(units: i32) -> Kilos {
+        Kilos(units)
     }
 }

@@ -1,32 +1,28 @@
 // What numbers a sheet and says how many lines follow.
-ghost use Rattle.limits.specs.Checked.{Measured, Counted};
+ghost use Rattle.std.specs.Prelude.{pos};
+ghost use Rattle.std.proofs.Common.{rules};
 
-use limits::{Number, counted, measured};
+use limits::{Count, Measure};
 
 // The edition of the sheet's form, of which there is one.
 #[derive(Clone, Copy)]
 pub struct Edition(pub usize);
 
-#[derive(Drop)]
-pub struct EditionRead {
-    pub value: Edition,
-    pub fault: usize,
-}
+impl Count for Edition {
+    const LEAST: usize = 1;
 
-impl Edition {
-    pub const LEAST: usize = 1;
+    const GREATEST: usize = 2;
 
-    pub const GREATEST: usize = 2;
+    ghost LEAST = { 1 };
 
-    // Checks the field of the line `sheet`.
-    pub fn checked(v: Number, fault: usize, field: usize) -> EditionRead
-        ensures { Counted Edition.LEAST Edition.GREATEST v.0 fault field result.value.0 result.fault }
-    {
-        let read = counted(v, Edition::LEAST, Edition::GREATEST, fault, field);
-        EditionRead {
-            value: Edition(read.count),
-            fault: read.fault,
-        }
+    ghost GREATEST = { 2 };
+
+    ghost amount = { λ held. held.0 };
+
+    ghost ordered = { Prim.search rules };
+
+    fn numbered(number: usize) -> Edition {
+        Edition(number)
     }
 }
 
@@ -34,26 +30,21 @@ impl Edition {
 #[derive(Clone, Copy)]
 pub struct FiringNumber(pub i32);
 
-#[derive(Drop)]
-pub struct FiringNumberRead {
-    pub value: FiringNumber,
-    pub fault: usize,
-}
+impl Measure for FiringNumber {
+    const LEAST: i32 = 1;
 
-impl FiringNumber {
-    pub const LEAST: i32 = 1;
+    const GREATEST: i32 = 999_999_999;
 
-    pub const GREATEST: i32 = 999_999_999;
+    ghost LEAST = { pos 1 };
 
-    // Checks the field of the line `firing`.
-    pub fn checked(v: Number, fault: usize, field: usize) -> FiringNumberRead
-        ensures { Measured FiringNumber.LEAST FiringNumber.GREATEST v.0 fault field result.value.0 result.fault }
-    {
-        let read = measured(v, FiringNumber::LEAST, FiringNumber::GREATEST, fault, field);
-        FiringNumberRead {
-            value: FiringNumber(read.value),
-            fault: read.fault,
-        }
+    ghost GREATEST = { pos 999999999 };
+
+    ghost amount = { λ held. held.0 };
+
+    ghost ordered = { Prim.search rules };
+
+    fn of(units: i32) -> FiringNumber {
+        FiringNumber(units)
     }
 }
 
@@ -61,26 +52,21 @@ impl FiringNumber {
 #[derive(Clone, Copy)]
 pub struct StageCount(pub usize);
 
-#[derive(Drop)]
-pub struct StageCountRead {
-    pub value: StageCount,
-    pub fault: usize,
-}
+impl Count for StageCount {
+    const LEAST: usize = 1;
 
-impl StageCount {
-    pub const LEAST: usize = 1;
+    const GREATEST: usize = 12;
 
-    pub const GREATEST: usize = 12;
+    ghost LEAST = { 1 };
 
-    // Checks the field of the line `stages`.
-    pub fn checked(v: Number, fault: usize, field: usize) -> StageCountRead
-        ensures { Counted StageCount.LEAST StageCount.GREATEST v.0 fault field result.value.0 result.fault }
-    {
-        let read = counted(v, StageCount::LEAST, StageCount::GREATEST, fault, field);
-        StageCountRead {
-            value: StageCount(read.count),
-            fault: read.fault,
-        }
+    ghost GREATEST = { 12 };
+
+    ghost amount = { λ held. held.0 };
+
+    ghost ordered = { Prim.search rules };
+
+    fn numbered(number: usize) -> StageCount {
+        StageCount(number)
     }
 }
 
@@ -88,26 +74,21 @@ impl StageCount {
 #[derive(Clone, Copy)]
 pub struct SetterCount(pub usize);
 
-#[derive(Drop)]
-pub struct SetterCountRead {
-    pub value: SetterCount,
-    pub fault: usize,
-}
+impl Count for SetterCount {
+    const LEAST: usize = 0;
 
-impl SetterCount {
-    pub const LEAST: usize = 0;
+    const GREATEST: usize = 32;
 
-    pub const GREATEST: usize = 32;
+    ghost LEAST = { 0 };
 
-    // Checks the field of the line `setters`.
-    pub fn checked(v: Number, fault: usize, field: usize) -> SetterCountRead
-        ensures { Counted SetterCount.LEAST SetterCount.GREATEST v.0 fault field result.value.0 result.fault }
-    {
-        let read = counted(v, SetterCount::LEAST, SetterCount::GREATEST, fault, field);
-        SetterCountRead {
-            value: SetterCount(read.count),
-            fault: read.fault,
-        }
+    ghost GREATEST = { 32 };
+
+    ghost amount = { λ held. held.0 };
+
+    ghost ordered = { Prim.search rules };
+
+    fn numbered(number: usize) -> SetterCount {
+        SetterCount(number)
     }
 }
 
@@ -115,26 +96,21 @@ impl SetterCount {
 #[derive(Clone, Copy)]
 pub struct PartCount(pub usize);
 
-#[derive(Drop)]
-pub struct PartCountRead {
-    pub value: PartCount,
-    pub fault: usize,
-}
+impl Count for PartCount {
+    const LEAST: usize = 0;
 
-impl PartCount {
-    pub const LEAST: usize = 0;
+    const GREATEST: usize = 32;
 
-    pub const GREATEST: usize = 32;
+    ghost LEAST = { 0 };
 
-    // Checks the field of the line `parts`.
-    pub fn checked(v: Number, fault: usize, field: usize) -> PartCountRead
-        ensures { Counted PartCount.LEAST PartCount.GREATEST v.0 fault field result.value.0 result.fault }
-    {
-        let read = counted(v, PartCount::LEAST, PartCount::GREATEST, fault, field);
-        PartCountRead {
-            value: PartCount(read.count),
-            fault: read.fault,
-        }
+    ghost GREATEST = { 32 };
+
+    ghost amount = { λ held. held.0 };
+
+    ghost ordered = { Prim.search rules };
+
+    fn numbered(number: usize) -> PartCount {
+        PartCount(number)
     }
 }
 
@@ -142,26 +118,21 @@ impl PartCount {
 #[derive(Clone, Copy)]
 pub struct SectionCount(pub usize);
 
-#[derive(Drop)]
-pub struct SectionCountRead {
-    pub value: SectionCount,
-    pub fault: usize,
-}
+impl Count for SectionCount {
+    const LEAST: usize = 1;
 
-impl SectionCount {
-    pub const LEAST: usize = 1;
+    const GREATEST: usize = 12;
 
-    pub const GREATEST: usize = 12;
+    ghost LEAST = { 1 };
 
-    // Checks the field of the line `sections`.
-    pub fn checked(v: Number, fault: usize, field: usize) -> SectionCountRead
-        ensures { Counted SectionCount.LEAST SectionCount.GREATEST v.0 fault field result.value.0 result.fault }
-    {
-        let read = counted(v, SectionCount::LEAST, SectionCount::GREATEST, fault, field);
-        SectionCountRead {
-            value: SectionCount(read.count),
-            fault: read.fault,
-        }
+    ghost GREATEST = { 12 };
+
+    ghost amount = { λ held. held.0 };
+
+    ghost ordered = { Prim.search rules };
+
+    fn numbered(number: usize) -> SectionCount {
+        SectionCount(number)
     }
 }
 
@@ -169,26 +140,21 @@ impl SectionCount {
 #[derive(Drop)]
 pub struct WallCount(pub usize);
 
-#[derive(Drop)]
-pub struct WallCountRead {
-    pub value: WallCount,
-    pub fault: usize,
-}
+impl Count for WallCount {
+    const LEAST: usize = 0;
 
-impl WallCount {
-    pub const LEAST: usize = 0;
+    const GREATEST: usize = 48;
 
-    pub const GREATEST: usize = 48;
+    ghost LEAST = { 0 };
 
-    // Checks the field of the line `walls`.
-    pub fn checked(v: Number, fault: usize, field: usize) -> WallCountRead
-        ensures { Counted WallCount.LEAST WallCount.GREATEST v.0 fault field result.value.0 result.fault }
-    {
-        let read = counted(v, WallCount::LEAST, WallCount::GREATEST, fault, field);
-        WallCountRead {
-            value: WallCount(read.count),
-            fault: read.fault,
-        }
+    ghost GREATEST = { 48 };
+
+    ghost amount = { λ held. held.0 };
+
+    ghost ordered = { Prim.search rules };
+
+    fn numbered(number: usize) -> WallCount {
+        WallCount(number)
     }
 }
 
@@ -196,25 +162,20 @@ impl WallCount {
 #[derive(Drop)]
 pub struct Closing(pub usize);
 
-#[derive(Drop)]
-pub struct ClosingRead {
-    pub value: Closing,
-    pub fault: usize,
-}
+impl Count for Closing {
+    const LEAST: usize = 1;
 
-impl Closing {
-    pub const LEAST: usize = 1;
+    const GREATEST: usize = 1;
 
-    pub const GREATEST: usize = 1;
+    ghost LEAST = { 1 };
 
-    // Checks the field of the line `end`.
-    pub fn checked(v: Number, fault: usize, field: usize) -> ClosingRead
-        ensures { Counted Closing.LEAST Closing.GREATEST v.0 fault field result.value.0 result.fault }
-    {
-        let read = counted(v, Closing::LEAST, Closing::GREATEST, fault, field);
-        ClosingRead {
-            value: Closing(read.count),
-            fault: read.fault,
-        }
+    ghost GREATEST = { 1 };
+
+    ghost amount = { λ held. held.0 };
+
+    ghost ordered = { Prim.search rules };
+
+    fn numbered(number: usize) -> Closing {
+        Closing(number)
     }
 }

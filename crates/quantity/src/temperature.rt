@@ -1,37 +1,33 @@
 // Temperatures, and how far one lies above another.
-ghost use Rattle.std.specs.Prelude.{◌≡◌, ◌-ℤ◌};
+ghost use Rattle.std.specs.Prelude.{◌≡◌, ◌-ℤ◌, pos, neg_ℤ};
 ghost use Rattle.std.specs.Int.{w64};
-ghost use Rattle.std.proofs.Common.{SFits};
-ghost use Rattle.limits.specs.Checked.{Measured};
+ghost use Rattle.std.proofs.Common.{SFits, rules};
 
-use limits::{Number, measured};
+use limits::Measure;
 
 // A temperature, in tenths of a degree Celsius.
 #[derive(Clone, Copy)]
 pub struct Degrees(pub i32);
 
-#[derive(Drop)]
-pub struct DegreesRead {
-    pub value: Degrees,
-    pub fault: usize,
+impl Measure for Degrees {
+    const LEAST: i32 = -200;
+
+    const GREATEST: i32 = 18_000;
+
+    ghost LEAST = { neg_ℤ (pos 200) };
+
+    ghost GREATEST = { pos 18000 };
+
+    ghost amount = { λ held. held.0 };
+
+    ghost ordered = { Prim.search rules };
+
+    fn of(units: i32) -> Degrees {
+        Degrees(units)
+    }
 }
 
 impl Degrees {
-    pub const LEAST: i32 = -200;
-
-    pub const GREATEST: i32 = 18_000;
-
-    // Checks a temperature of a line `ware`, `setter` or `part`.
-    pub fn checked(v: Number, fault: usize, field: usize) -> DegreesRead
-        ensures { Measured Degrees.LEAST Degrees.GREATEST v.0 fault field result.value.0 result.fault }
-    {
-        let read = measured(v, Degrees::LEAST, Degrees::GREATEST, fault, field);
-        DegreesRead {
-            value: Degrees(read.value),
-            fault: read.fault,
-        }
-    }
-
     // How far this temperature lies above `base`.
     pub fn above(self, base: Degrees) -> Rise
         requires { SFits w64 (self.0 -ℤ base.0) }
@@ -45,33 +41,30 @@ impl Degrees {
 #[derive(Clone, Copy)]
 pub struct Ambient(pub i32);
 
-#[derive(Drop)]
-pub struct AmbientRead {
-    pub value: Ambient,
-    pub fault: usize,
+impl Measure for Ambient {
+    const LEAST: i32 = -200;
+
+    const GREATEST: i32 = 500;
+
+    ghost LEAST = { neg_ℤ (pos 200) };
+
+    ghost GREATEST = { pos 500 };
+
+    ghost amount = { λ held. held.0 };
+
+    ghost ordered = { Prim.search rules };
+
+    fn of(units: i32) -> Ambient {
+        Ambient(units)
+    }
 }
 
-impl Ambient {
-    pub const LEAST: i32 = -200;
+// The same temperature where any may stand.
+impl From<Ambient> for Degrees {
+    ghost from_gives = { λ ambient degrees. degrees.0 ≡ ambient.0 };
 
-    pub const GREATEST: i32 = 500;
-
-    // Checks the field of the line `ambient`.
-    pub fn checked(v: Number, fault: usize, field: usize) -> AmbientRead
-        ensures { Measured Ambient.LEAST Ambient.GREATEST v.0 fault field result.value.0 result.fault }
-    {
-        let read = measured(v, Ambient::LEAST, Ambient::GREATEST, fault, field);
-        AmbientRead {
-            value: Ambient(read.value),
-            fault: read.fault,
-        }
-    }
-
-    // The same temperature where any may stand.
-    pub fn degrees(self) -> Degrees
-        ensures { result.0 ≡ self.0 }
-    {
-        Degrees(self.0)
+    fn from(ambient: Ambient) -> Degrees {
+        Degrees(ambient.0)
     }
 }
 
@@ -79,39 +72,30 @@ impl Ambient {
 #[derive(Clone, Copy)]
 pub struct FuelTemperature(pub i32);
 
-#[derive(Drop)]
-pub struct FuelTemperatureRead {
-    pub value: FuelTemperature,
-    pub fault: usize,
+impl Measure for FuelTemperature {
+    const LEAST: i32 = 0;
+
+    const GREATEST: i32 = 600;
+
+    ghost LEAST = { pos 0 };
+
+    ghost GREATEST = { pos 600 };
+
+    ghost amount = { λ held. held.0 };
+
+    ghost ordered = { Prim.search rules };
+
+    fn of(units: i32) -> FuelTemperature {
+        FuelTemperature(units)
+    }
 }
 
-impl FuelTemperature {
-    pub const LEAST: i32 = 0;
+// The same temperature where any may stand.
+impl From<FuelTemperature> for Degrees {
+    ghost from_gives = { λ fuel degrees. degrees.0 ≡ fuel.0 };
 
-    pub const GREATEST: i32 = 600;
-
-    // Checks the temperature of the line `fuel`.
-    pub fn checked(v: Number, fault: usize, field: usize) -> FuelTemperatureRead
-        ensures { Measured FuelTemperature.LEAST FuelTemperature.GREATEST v.0 fault field result.value.0 result.fault }
-    {
-        let read = measured(
-            v,
-            FuelTemperature::LEAST,
-            FuelTemperature::GREATEST,
-            fault,
-            field,
-        );
-        FuelTemperatureRead {
-            value: FuelTemperature(read.value),
-            fault: read.fault,
-        }
-    }
-
-    // The same temperature where any may stand.
-    pub fn degrees(self) -> Degrees
-        ensures { result.0 ≡ self.0 }
-    {
-        Degrees(self.0)
+    fn from(fuel: FuelTemperature) -> Degrees {
+        Degrees(fuel.0)
     }
 }
 
@@ -120,39 +104,30 @@ impl FuelTemperature {
 #[derive(Clone, Copy)]
 pub struct FlueTemperature(pub i16);
 
-#[derive(Drop)]
-pub struct FlueTemperatureRead {
-    pub value: FlueTemperature,
-    pub fault: usize,
+impl Measure for FlueTemperature {
+    const LEAST: i32 = 0;
+
+    const GREATEST: i32 = 12_000;
+
+    ghost LEAST = { pos 0 };
+
+    ghost GREATEST = { pos 12000 };
+
+    ghost amount = { λ held. held.0 };
+
+    ghost ordered = { Prim.search rules };
+
+    fn of(units: i32) -> FlueTemperature {
+        FlueTemperature(units as i16)
+    }
 }
 
-impl FlueTemperature {
-    pub const LEAST: i32 = 0;
+// The same temperature where any may stand.
+impl From<FlueTemperature> for Degrees {
+    ghost from_gives = { λ flue degrees. degrees.0 ≡ flue.0 };
 
-    pub const GREATEST: i32 = 12_000;
-
-    // Checks the flue temperature of a line `water` or `stage`.
-    pub fn checked(v: Number, fault: usize, field: usize) -> FlueTemperatureRead
-        ensures { Measured FlueTemperature.LEAST FlueTemperature.GREATEST v.0 fault field result.value.0 result.fault }
-    {
-        let read = measured(
-            v,
-            FlueTemperature::LEAST,
-            FlueTemperature::GREATEST,
-            fault,
-            field,
-        );
-        FlueTemperatureRead {
-            value: FlueTemperature(read.value as i16),
-            fault: read.fault,
-        }
-    }
-
-    // The same temperature where any may stand.
-    pub fn degrees(self) -> Degrees
-        ensures { result.0 ≡ self.0 }
-    {
-        Degrees(self.0 as i32)
+    fn from(flue: FlueTemperature) -> Degrees {
+        Degrees(flue.0 as i32)
     }
 }
 
@@ -161,39 +136,30 @@ impl FlueTemperature {
 #[derive(Drop)]
 pub struct AnalysedFlueTemperature(pub i16);
 
-#[derive(Drop)]
-pub struct AnalysedFlueTemperatureRead {
-    pub value: AnalysedFlueTemperature,
-    pub fault: usize,
+impl Measure for AnalysedFlueTemperature {
+    const LEAST: i32 = 0;
+
+    const GREATEST: i32 = 10_000;
+
+    ghost LEAST = { pos 0 };
+
+    ghost GREATEST = { pos 10000 };
+
+    ghost amount = { λ held. held.0 };
+
+    ghost ordered = { Prim.search rules };
+
+    fn of(units: i32) -> AnalysedFlueTemperature {
+        AnalysedFlueTemperature(units as i16)
+    }
 }
 
-impl AnalysedFlueTemperature {
-    pub const LEAST: i32 = 0;
+// The same temperature where any flue's may stand.
+impl From<AnalysedFlueTemperature> for FlueTemperature {
+    ghost from_gives = { λ analysed flue. flue.0 ≡ analysed.0 };
 
-    pub const GREATEST: i32 = 10_000;
-
-    // Checks the flue temperature of a line `stage` of sheet 2.
-    pub fn checked(v: Number, fault: usize, field: usize) -> AnalysedFlueTemperatureRead
-        ensures { Measured AnalysedFlueTemperature.LEAST AnalysedFlueTemperature.GREATEST v.0 fault field result.value.0 result.fault }
-    {
-        let read = measured(
-            v,
-            AnalysedFlueTemperature::LEAST,
-            AnalysedFlueTemperature::GREATEST,
-            fault,
-            field,
-        );
-        AnalysedFlueTemperatureRead {
-            value: AnalysedFlueTemperature(read.value as i16),
-            fault: read.fault,
-        }
-    }
-
-    // The same temperature where any flue's may stand.
-    pub fn of_flue(self) -> FlueTemperature
-        ensures { result.0 ≡ self.0 }
-    {
-        FlueTemperature(self.0)
+    fn from(analysed: AnalysedFlueTemperature) -> FlueTemperature {
+        FlueTemperature(analysed.0)
     }
 }
 
@@ -202,47 +168,40 @@ impl AnalysedFlueTemperature {
 #[derive(Clone, Copy)]
 pub struct SurfaceTemperature(pub i16);
 
-#[derive(Drop)]
-pub struct SurfaceTemperatureRead {
-    pub value: SurfaceTemperature,
-    pub fault: usize,
+impl Measure for SurfaceTemperature {
+    const LEAST: i32 = -200;
+
+    const GREATEST: i32 = 3_000;
+
+    ghost LEAST = { neg_ℤ (pos 200) };
+
+    ghost GREATEST = { pos 3000 };
+
+    ghost amount = { λ held. held.0 };
+
+    ghost ordered = { Prim.search rules };
+
+    fn of(units: i32) -> SurfaceTemperature {
+        SurfaceTemperature(units as i16)
+    }
+}
+
+// The same temperature where any may stand.
+impl From<SurfaceTemperature> for Degrees {
+    ghost from_gives = { λ surface degrees. degrees.0 ≡ surface.0 };
+
+    fn from(surface: SurfaceTemperature) -> Degrees {
+        Degrees(surface.0 as i32)
+    }
 }
 
 impl SurfaceTemperature {
-    pub const LEAST: i32 = -200;
-
-    pub const GREATEST: i32 = 3_000;
-
-    // Checks the surface of a line `wall`.
-    pub fn checked(v: Number, fault: usize, field: usize) -> SurfaceTemperatureRead
-        ensures { Measured SurfaceTemperature.LEAST SurfaceTemperature.GREATEST v.0 fault field result.value.0 result.fault }
-    {
-        let read = measured(
-            v,
-            SurfaceTemperature::LEAST,
-            SurfaceTemperature::GREATEST,
-            fault,
-            field,
-        );
-        SurfaceTemperatureRead {
-            value: SurfaceTemperature(read.value as i16),
-            fault: read.fault,
-        }
-    }
-
-    // The same temperature where any may stand.
-    pub fn degrees(self) -> Degrees
-        ensures { result.0 ≡ self.0 }
-    {
-        Degrees(self.0 as i32)
-    }
-
     // How far the surface lies above the air near it, Δ of the surface formulas.
     pub fn above(self, air: NearAir) -> Rise
         requires { SFits w64 (self.0 -ℤ air.0) }
         ensures { result.0 ≡ self.0 -ℤ air.0 }
     {
-        self.degrees().above(air.degrees())
+        Degrees::from(self).above(Degrees::from(air))
     }
 }
 
@@ -251,33 +210,30 @@ impl SurfaceTemperature {
 #[derive(Clone, Copy)]
 pub struct NearAir(pub i16);
 
-#[derive(Drop)]
-pub struct NearAirRead {
-    pub value: NearAir,
-    pub fault: usize,
+impl Measure for NearAir {
+    const LEAST: i32 = -200;
+
+    const GREATEST: i32 = 500;
+
+    ghost LEAST = { neg_ℤ (pos 200) };
+
+    ghost GREATEST = { pos 500 };
+
+    ghost amount = { λ held. held.0 };
+
+    ghost ordered = { Prim.search rules };
+
+    fn of(units: i32) -> NearAir {
+        NearAir(units as i16)
+    }
 }
 
-impl NearAir {
-    pub const LEAST: i32 = -200;
+// The same temperature where any may stand.
+impl From<NearAir> for Degrees {
+    ghost from_gives = { λ air degrees. degrees.0 ≡ air.0 };
 
-    pub const GREATEST: i32 = 500;
-
-    // Checks the air of a line `wall`.
-    pub fn checked(v: Number, fault: usize, field: usize) -> NearAirRead
-        ensures { Measured NearAir.LEAST NearAir.GREATEST v.0 fault field result.value.0 result.fault }
-    {
-        let read = measured(v, NearAir::LEAST, NearAir::GREATEST, fault, field);
-        NearAirRead {
-            value: NearAir(read.value as i16),
-            fault: read.fault,
-        }
-    }
-
-    // The same temperature where any may stand.
-    pub fn degrees(self) -> Degrees
-        ensures { result.0 ≡ self.0 }
-    {
-        Degrees(self.0 as i32)
+    fn from(air: NearAir) -> Degrees {
+        Degrees(air.0 as i32)
     }
 }
 
