@@ -1,5 +1,5 @@
 -- What stands in a struct where nothing was read: 0 in every field, or the least of its quantity where that is above 0.
-use Rattle.std.specs.Prelude.{false, pos, nat_abs, replicate}
+use Rattle.std.specs.Prelude.{Option, None, pos, nat_abs, replicate}
 use Rattle.sheet.specs.declared.Stuff.{Stuff}
 use Rattle.sheet.specs.declared.Analysis.{Analysis}
 use Rattle.sheet.specs.declared.Stage.{Stage}
@@ -14,8 +14,8 @@ use Rattle.sheet.specs.Quantities.{gases, stages_most, setters_most, parts_most,
 abbrev pub blank_stuff : Stuff
 blank_stuff = record { material = record { 0 = 0 }; c = record { 0 = pos 0 } }
 
-abbrev pub no_analysis : Analysis
-no_analysis = record { read = false; pair = record { 0 = pos 0 }; oxygen = record { 0 = pos 0 } }
+abbrev pub no_analysis : Option Analysis
+no_analysis = None
 
 abbrev pub blank_stage : Stage
 blank_stage = record {

@@ -1,5 +1,5 @@
 -- What the code's structs show: the firing whose lines their arrays begin with, and whose readings stand by section and stage.
-use Rattle.std.specs.Prelude.{ℕ, suc, ◌-◌, ◌≡◌, Bool, true, false, cond, ◌&&◌, List, [], ◌∷◌, map, get_or, take, set, replicate, eqb, ℤ, pos, nat_abs}
+use Rattle.std.specs.Prelude.{Option as Optionˢ, None, Some, ℕ, suc, ◌-◌, ◌≡◌, Bool, cond, ◌&&◌, List, [], ◌∷◌, map, get_or, take, set, replicate, eqb, ℤ, pos, nat_abs}
 use Rattle.std.proofs.Math.Option.{Option, none, some}
 use Rattle.std.specs.Int.Signed.{le_z}
 use Rattle.quantity.specs.declared.gas.Share.{Share}
@@ -14,7 +14,6 @@ use Rattle.sheet.specs.declared.Part.{Part as Partˢ}
 use Rattle.sheet.specs.declared.Section.{Section as Sectionˢ}
 use Rattle.sheet.specs.declared.Reading.{Reading as Readingˢ}
 use Rattle.sheet.specs.declared.SectionReadings.{SectionReadings as SectionReadingsˢ}
-use Rattle.sheet.specs.declared.Head.{Head as Headˢ}
 use Rattle.sheet.specs.declared.Sheet.{Sheet as Sheetˢ}
 use Rattle.sheet.specs.Firing.{Stuff, Fuel, Gas, Ware, Water, Analysis, Stage, Setter, Part, Section, Wall, Firing}
 use Rattle.sheet.specs.Quantities.{stages_most, sections_most}
@@ -53,8 +52,9 @@ ware x = record { green = x.green.0; entry = x.entry.0; highest = x.highest.0; s
 abbrev pub water : Waterˢ → Water
 water x = record { adsorbed = x.adsorbed.0; crystal = x.crystal.0; flue = x.flue.0 }
 
-abbrev pub analysis : Analysisˢ → Option Analysis
-analysis x = cond x.read (some (record { pair = x.pair.0; oxygen = x.oxygen.0 })) none
+abbrev pub analysis : Optionˢ Analysisˢ → Option Analysis
+analysis None = none
+analysis (Some x) = some (record { pair = x.pair.0; oxygen = x.oxygen.0 })
 
 abbrev pub stage : Stageˢ → Stage
 stage x = record { gas = x.gas.0; excess = x.excess.0; flue = x.flue.0; co = x.co.0; analysis = analysis x.analysis; minutes = x.minutes.0 }

@@ -8,7 +8,8 @@ use crate::{
     Analysis, Fuel, GASES, Head, Part, Parts, Reading, Section, SectionReadings, Sections, Setter,
     Setters, Sheet, Stage, Stages, Stuff, Ware, Water,
 };
-use quantity::gas::{CarbonMonoxide, CubicMetres, Dioxides, ExcessAir, Moisture, Oxygen, Share};
+use limits::{Count, Measure};
+use quantity::gas::{CarbonMonoxide, CubicMetres, ExcessAir, Moisture, Share};
 use quantity::heat::{HeatingValue, SpecificHeat};
 use quantity::kiln::{Area, Material, Minutes, SectionNumber, SectionPlace};
 use quantity::mass::{Kilos, Product};
@@ -18,14 +19,10 @@ use quantity::temperature::{
 };
 
 // A flue that was not analysed.
-pub fn analysis() -> Analysis
+pub fn analysis() -> Option<Analysis>
     ensures { result ≡ no_analysis }
 {
-    Analysis {
-        read: false,
-        pair: Dioxides(0),
-        oxygen: Oxygen(0),
-    }
+    None
 }
 
 // A stage that was not read.

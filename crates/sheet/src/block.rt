@@ -3,14 +3,14 @@ ghost use Rattle.std.specs.Prelude.{◌≡◌, min};
 ghost use Rattle.sheet.specs.Block.{stages_of, total_gas};
 
 use crate::Stages;
-use limits::Number;
+use limits::{Count, Number};
 use quantity::sheet::StageCount;
 
 // How many lines a block holds: its count, and never more than it has room for.
 pub fn held(count: usize, room: usize) -> usize
     ensures { result ≡ min count room }
 {
-    if count < room { count } else { room }
+    count.min(room)
 }
 
 // The gas of all stages: a plain number, as a sum that begins at 0 keeps no limits on its way.

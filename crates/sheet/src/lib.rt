@@ -7,6 +7,7 @@ pub mod block;
 ghost use Rattle.std.specs.Prelude.{◌≡◌};
 ghost use Rattle.sheet.specs.Refusals.{number, field};
 
+use limits::Count;
 use quantity::gas::{CarbonMonoxide, CubicMetres, Dioxides, ExcessAir, Moisture, Oxygen, Share};
 use quantity::heat::{HeatingValue, SpecificHeat};
 use quantity::kiln::{Area, Material, Minutes, SectionNumber, SectionPlace};
@@ -75,21 +76,21 @@ pub struct Water {
     pub flue: FlueTemperature,
 }
 
-// What an analyser says of the dry flue besides CO. On a sheet without it `read` is false, and the shares are 0.
+// What an analyser says of the dry flue besides CO.
 #[derive(Clone, Copy)]
 pub struct Analysis {
-    pub read: bool,
     pub pair: Dioxides,
     pub oxygen: Oxygen,
 }
 
+// What was read in a stage, with the analysis where the sheet has one.
 #[derive(Clone, Copy)]
 pub struct Stage {
     pub gas: CubicMetres,
     pub excess: ExcessAir,
     pub flue: FlueTemperature,
     pub co: CarbonMonoxide,
-    pub analysis: Analysis,
+    pub analysis: Option<Analysis>,
     pub minutes: Minutes,
 }
 
@@ -145,6 +146,7 @@ pub struct Head {
     pub clay: Kilos,
 }
 
+// Four structs and not one with its length as a parameter: the language computes no such argument, and a limit is written once.
 // A block: how many lines it has, and the lines, of which those beyond the count mean nothing.
 #[derive(Clone, Copy)]
 pub struct Stages {
