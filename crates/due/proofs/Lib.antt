@@ -7,5 +7,6 @@ pub mod Formed
 pub mod Quantities
 pub mod Sequence
 pub mod Fills
+pub mod Laid
 pub mod Above
 pub mod Said

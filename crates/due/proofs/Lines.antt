@@ -24,7 +24,7 @@ use Rattle.due.specs.Place.{good, refused_at, Fair, Stands, Meets, After, ranged
 use Rattle.limits.specs.declared.Number.{Number}
 use Rattle.due.specs.Taking.{from, fault_of, Taken}
 use Rattle.due.specs.Form.{form_of}
-use Rattle.due.proofs.Places.{not-both, refused-bad, after_weaker, after-left}
+use Rattle.due.proofs.Places.{not-both, refused-bad, after_weaker}
 use Rattle.due.proofs.Ranges.{fault_is, outside-some}
 use Rattle.due.proofs.Chain.{taken-clean}
 
@@ -180,12 +180,3 @@ line_after s p q l v fault Shown a t =
     (λ row h. subst Shown h.0 (taken-clean t (t.first ∙ fault_is 1 l.fields zs
     ∙ ap (λ (o : Option ℕ). on o 0 (λ i. i)) (ap (λ (x : List ℤ). outside_of 1 l.fields x) h.0 ∙ h.1))))
     (ranged-after s p q l P fault (λ row e n. t.first ∙ ap (λ (x : List ℤ). fault_of 1 l.fields x) e) a)
-
--- and then its rule
-pub ruled-line : {s : List ℕ} {p q q₁ q₂ : Place} {fault : ℕ} (l : Line) (v : List Number) (Shown : List ℤ → Type 0)
-    (rule : Row → Option Refusal) (broken : Bool) (why : Refusal) → After s p (form_of l) q (λ row. from 0 (length l.fields) v ≡ row.numbers)
-    → Taken l.fields (from 0 (length l.fields) v) fault Shown → q₁ ≡ ranged p.line q fault
-    → ((row : Row) → Shown row.numbers → rule row ≡ when broken why) → q₂ ≡ ruled p.line q₁ broken why
-    → After s p (read_line l rule) q₂ (λ row. Shown row.numbers)
-ruled-line {s} {p} {q} {q₁} {fault = fault} l v Shown rule broken why a t e f g =
-    rw g (after-left (ruled-after s p q₁ l (λ row. Shown row.numbers) (λ row. none) rule broken why f (rw e (line_after s p q l v fault Shown a t))))

@@ -7,8 +7,10 @@ use Rattle.form.specs.Formed.{zeros, values_in, line_at}
 use Rattle.document.specs.Schema.{Line, Row, formed_by}
 use Rattle.document.specs.Reader.{Reader, judged}
 use Rattle.due.specs.declared.Place.{Place}
-use Rattle.due.specs.declared.LineDue.{LineDue}
-use Rattle.due.specs.Place.{good, After}
+use Rattle.limits.specs.declared.Number.{Number}
+use Rattle.limits.specs.declared.Checked.{Checked}
+use Rattle.due.specs.declared.Heard.{Heard}
+use Rattle.due.specs.Place.{good, After, ranged}
 use Rattle.due.specs.Taking.{plain_numbers, from}
 
 -- the key is given with its `=`
@@ -28,6 +30,15 @@ pub record FormAfter (s : List ℕ) (p : Place) (key : List ℕ) (n : ℕ) (q : 
   pub whole : v ≡ values_at s p key n
 
 -- the same, with the numbers taken out of the array
-pub record DueAfter (s : List ℕ) (p : Place) (key : List ℕ) (n : ℕ) (r : LineDue) : Type 0 where
-  pub after : After s p (read_form key n) r.place (λ row. from 0 n r.values ≡ row.numbers)
-  pub whole : plain_numbers r.values ≡ values_at s p key n
+pub record DueAfter (s : List ℕ) (p : Place) (key : List ℕ) (n : ℕ) (r : Heard (List Number)) : Type 0 where
+  pub after : After s p (read_form key n) r.place (λ row. from 0 n r.said ≡ row.numbers)
+  pub whole : plain_numbers r.said ≡ values_at s p key n
+
+-- the form was read, something was taken of its numbers, and the first field outside its range was asked for
+pub record LineTaken {T : Type 0} (s : List ℕ) (p : Place) (key : List ℕ) (n : ℕ) (Of : List Number → Checked T → Type 0) (r : Heard T) : Type 0 where
+  pub form : Heard (List Number)
+  pub due : DueAfter s p key n form
+  pub took : Checked T
+  pub taken : Of form.said took
+  pub place : r.place ≡ ranged p.line form.place took.fault
+  pub said : r.said ≡ took.value

@@ -15,6 +15,10 @@ abbrev pub from : ℕ → ℕ → List Number → List ℤ
 from i zero v = []
 from i (suc k) v = (get_or v i (record { 0 = pos 0 })).0 ∷ from (suc i) k v
 
+-- one field with its limits
+abbrev pub one : ℤ → ℤ → List Field
+one least greatest = record { least = least; greatest = greatest } ∷ []
+
 -- the first field outside its range, counted from i; 0 where there is none
 unfoldable pub fault_of : ℕ → List Field → List ℤ → ℕ
 fault_of i [] zs = 0

@@ -3,14 +3,20 @@
 
 pub mod stuff;
 
-ghost use Rattle.std.specs.Prelude.{◌≡◌, true, ◌+◌, ◌≤◌, length};
+ghost use Rattle.std.specs.Prelude.{◌≡◌, true, ◌+◌, ◌++◌, ◌≤◌, ◌-◌, length, pos, List, replicate};
+ghost use Rattle.std.proofs.Math.Option.{none};
+ghost use Rattle.text.specs.Bytes.{bytes};
+ghost use Rattle.document.specs.Schema.{Line, at};
+ghost use Rattle.document.specs.Reader.{read_line};
+ghost use Rattle.due.specs.Taking.{one};
+ghost use Rattle.due.specs.Block.{RowsHeard};
 ghost use Rattle.sheet.specs.Quantities.{fields_most, sheet_most};
 ghost use Rattle.form.specs.Formed.{zeros};
-ghost use Rattle.due.specs.Place.{good, going_on, refused_at, Ready, ranged as rangedPlace, ruled as ruledPlace};
-ghost use Rattle.due.specs.Form.{FormAfter, DueAfter};
+ghost use Rattle.due.specs.Place.{good, going_on, refused_at, Ready, After, ranged as rangedPlace, ruled as ruledPlace};
+ghost use Rattle.due.specs.Form.{FormAfter, DueAfter, LineTaken};
 ghost use Rattle.due.specs.Taking.{plain_numbers};
 
-use limits::Number;
+use limits::{Checked, Count, Measure, Number};
 use sheet::{FIELDS_MOST, Refusal};
 
 // Where the reading stands: before a line, at a place of the text; or refused, with document 01's number of the refusal, the field that it names
@@ -24,11 +30,11 @@ pub struct Place {
     pub at: usize,
 }
 
-// The numbers of the line that was due, and the place after it.
+// What a line or a block of lines says, and the place after it. Where it is refused the place says so, and what is said means nothing.
 #[derive(Drop)]
-pub struct LineDue {
+pub struct Heard<T> {
     pub place: Place,
-    pub values: [Number; FIELDS_MOST],
+    pub said: T,
 }
 
 // The place of a refusal.
@@ -78,7 +84,8 @@ pub fn careful(s: &[u8], p: Place, key: &[u8], n: usize, v: &mut [i64; FIELDS_MO
 }
 
 // Reads the form of the line that is due into an array of zeros, in one pass where it is plain; a refused place passes through.
-// For the compiler a part of its caller, and `gas_line` has its own: docs/DECISIONS.md, "A line's place stays out of memory".
+// A part of its caller for the compiler, as are all that are marked so here: docs/DECISIONS.md, "A line's place stays out of memory".
+#[inline(always)]
 fn read_form(s: &[u8], p: Place, key: &[u8], n: usize, v: &mut [i64; FIELDS_MOST]) -> Place
     requires n_le_fields_most { n ≤ fields_most }
     requires ready { Ready s.now p }
@@ -101,24 +108,23 @@ pub fn numbers(v: [i64; FIELDS_MOST]) -> [Number; FIELDS_MOST]
     ensures { plain_numbers result ≡ v }
 {
     let mut r = [Number(0); FIELDS_MOST];
-    let mut i = 0;
-    while i < FIELDS_MOST {
+    for i in 0..FIELDS_MOST {
         r[i] = Number(v[i]);
-        i += 1;
     }
     r
 }
 
 // The form of the line that is due, with its numbers.
-pub fn due(s: &[u8], p: Place, key: &[u8], n: usize) -> LineDue
+#[inline(always)]
+pub fn due(s: &[u8], p: Place, key: &[u8], n: usize) -> Heard<[Number; FIELDS_MOST]>
     requires n_le_fields_most { n ≤ fields_most }
     requires ready { Ready s.now p }
     ensures { DueAfter s.now p key.now n result }
 {
     let mut v = [0; FIELDS_MOST];
     let q = read_form(s, p, key, n, &mut v);
-    let values = numbers(v);
-    LineDue {
+    let said = numbers(v);
+    Heard {
         // Put together anew for the compiler: docs/DECISIONS.md, "A line's place stays out of memory".
         place: Place {
             number: q.number,
@@ -126,7 +132,7 @@ pub fn due(s: &[u8], p: Place, key: &[u8], n: usize) -> LineDue
             line: q.line,
             at: q.at,
         },
-        values,
+        said,
     }
 }
 
@@ -152,4 +158,86 @@ pub fn ruled(line: usize, q: Place, broken: bool, why: Refusal) -> Place
         }
     }
     q
+}
+
+// A line of one number that is measured.
+#[inline(always)]
+pub fn measured_line<Q: Measure>(s: &[u8], p: Place, key: &[u8]) -> Heard<Q>
+    requires { Ready s.now p }
+    ensures says { (l : Line) → l.key ++ bytes "=" ≡ key.now → l.fields ≡ one Q.LEAST Q.GREATEST →
+        After s.now p (read_line l (λ row. none)) result.place (λ row. Q.amount result.said ≡ at row 0) }
+    ensures ready { Ready s.now result.place }
+{
+    let d = due(s, p, key, 1);
+    let v = d.said;
+    let units = Q::checked(v[0], 0, 1);
+    Heard {
+        place: ranged(p.line, d.place, units.fault),
+        said: units.value,
+    }
+}
+
+// As with what is measured: the two traits have no limit in common that one function could name.
+// A line of one number that is counted.
+#[inline(always)]
+pub fn counted_line<Q: Count>(s: &[u8], p: Place, key: &[u8]) -> Heard<Q>
+    requires { Ready s.now p }
+    ensures says { (l : Line) → l.key ++ bytes "=" ≡ key.now → l.fields ≡ one (pos Q.LEAST) (pos Q.GREATEST) →
+        After s.now p (read_line l (λ row. none)) result.place (λ row. pos (Q.amount result.said) ≡ at row 0) }
+    ensures ready { Ready s.now result.place }
+    ensures within { Q.amount result.said ≤ Q.GREATEST }
+{
+    let d = due(s, p, key, 1);
+    let v = d.said;
+    let number = Q::checked(v[0], 0, 1);
+    Heard {
+        place: ranged(p.line, d.place, number.fault),
+        said: number.value,
+    }
+}
+
+// A line of n numbers, of which a thing is taken. The first of its fields that is outside its range refuses the line.
+#[inline(always)]
+pub fn line<T, F: Fn([Number; FIELDS_MOST]) -> Checked<T>>(
+    s: &[u8],
+    p: Place,
+    key: &[u8],
+    n: usize,
+    taken: F,
+) -> Heard<T>
+    requires n_le_fields_most { n ≤ fields_most }
+    requires ready { Ready s.now p }
+    requires callable { F.IsAlwaysCallable taken }
+    ensures says { LineTaken s.now p key.now n (F.post taken) result }
+    ensures ready { Ready s.now result.place }
+{
+    let d = due(s, p, key, n);
+    let v = d.said;
+    let t = taken(v);
+    Heard {
+        place: ranged(p.line, d.place, t.fault),
+        said: t.value,
+    }
+}
+
+// So many lines of one kind, laid into an array from its front on; behind them it stays blank.
+pub fn rows<T: Copy, const N: usize, F: Fn(Place) -> Heard<T>>(
+    start: Place,
+    k: usize,
+    blank: T,
+    line: F,
+) -> Heard<[T; N]>
+    requires k_le_most { k ≤ N }
+    requires first { F.pre line start }
+    requires next { (p : Place) (r : Heard T) → F.pre line p → F.post line p r → F.pre line r.place }
+    ensures { (xs : List T) × RowsHeard (F.post line) k start result.place xs × (result.said ≡ xs ++ replicate (N - k) blank) }
+{
+    let mut said = [blank; N];
+    let mut place = start;
+    for i in 0..k {
+        let heard = line(place);
+        said[i] = heard.said;
+        place = heard.place;
+    }
+    Heard { place, said }
 }

@@ -10,15 +10,13 @@ use sheet::Stuff;
 fn without(c: SpecificHeat) -> bool
     ensures { result ≡ same (pos 0) c.0 }
 {
-    0 <= c.0 && c.0 <= 0
+    c.0 == 0
 }
 
 // Whether a thing's material and c do not go together.
 pub fn unsuited(x: Stuff) -> bool
     ensures { result ≡ unsuitedStuff (stuff x) }
 {
-    let material = x.material;
-    let c = x.c;
-    let none = without(c);
-    if material.0 == 0 { none } else { !none }
+    let none = without(x.c);
+    if x.material.0 == 0 { none } else { !none }
 }

@@ -1,5 +1,5 @@
 -- The numbers are taken out of the array. Assumes nothing.
-use mathlib.Core.Path.{refl, ◌∙◌}
+use mathlib.Core.Path.{◌∙◌}
 use borrow.Author.Rules.{rules}
 use Rattle.due.proofs.Formed.{due_form}
 use Rattle.due.proofs.due.Statement.{statement}
@@ -11,9 +11,9 @@ returns c =
     let a = formed.before.before.before.before in
     let f = formed.read_form-q.ensures in
     record {
-      after = due_form a.args.s.now a.args.p a.args.key.now a.args.n formed.read_form-q.result _ c.numbers-values.result a.requires.0
-          c.numbers-values.ensures f;
-      whole = c.numbers-values.ensures ∙ f.whole;
+      after = due_form a.args.s.now a.args.p a.args.key.now a.args.n formed.read_form-q.result _ c.numbers-said.result a.requires.0
+          c.numbers-said.ensures f;
+      whole = c.numbers-said.ensures ∙ f.whole;
     }
 
 pub due_spec : {M : Type 1} → statement M
