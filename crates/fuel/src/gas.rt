@@ -9,39 +9,26 @@ ghost use Rattle.sheet.specs.Block.{sum};
 ghost use Rattle.document.specs.Tests.{weigh, air_weights, gas-rule};
 ghost use Rattle.document.specs.Reader.{read_line};
 ghost use Rattle.document.specs.Rules.{Every};
-ghost use Rattle.text.specs.Bytes.{bytes};
-ghost use Rattle.form.specs.Formed.{zeros};
 ghost use Rattle.due.specs.Place.{Ready, After};
-ghost use Rattle.due.specs.Form.{FormAfter};
 ghost use Rattle.due.specs.Taking.{from, Taken};
 
-use due::{Place, careful, onward, ranged, ruled};
-use limits::Number;
+use due::{Heard, Place, line, ruled};
+use limits::{Checked, Measure, Number};
 use quantity::gas::Share;
 use sheet::{FIELDS_MOST, GASES, Refusal};
 
-#[derive(Drop)]
-pub struct GasTaken {
-    pub gas: [Share; GASES],
-    pub fault: usize,
-}
-
 // The gas from the thirteen shares of its line.
-fn gas_of(v: [Number; FIELDS_MOST]) -> GasTaken
-    ensures { Taken gas_line.fields (from 0 gases v) result.fault (λ zs. shares result.gas ≡ zs) }
+fn gas_of(v: [Number; FIELDS_MOST]) -> Checked<[Share; GASES]>
+    ensures { Taken gas_line.fields (from 0 gases v) result.fault (λ zs. shares result.value ≡ zs) }
 {
-    let mut gas = [Share(0); GASES];
+    let mut value = [Share(0); GASES];
     let mut fault = 0;
-    let mut i = 0;
-    while i < GASES {
-        let n = v[i];
-        let r = Share::checked(n, fault, i + 1);
-        let share = r.value;
-        gas[i] = share;
-        fault = r.fault;
-        i += 1;
+    for i in 0..GASES {
+        let share = Share::checked(v[i], fault, i + 1);
+        value[i] = share.value;
+        fault = share.fault;
     }
-    GasTaken { gas, fault }
+    Checked { value, fault }
 }
 
 // A sum of shares, each so many times.
@@ -53,26 +40,25 @@ const AIR: [i64; GASES] = [1, 0, 1, -2, 0, 0, 4, 6, 7, 10, 13, 3, 0];
 
 // The shares, each as often as its weight says.
 fn weighed(gas: [Share; GASES], weights: [i64; GASES]) -> Tally
-    requires every { Every (λ x. nat_abs x.0 ≤ 10000) gas }
-    requires every_2 { Every (λ w. nat_abs w ≤ 13) weights }
+    requires shares { Every (λ x. nat_abs x.0 ≤ 10000) gas }
+    requires weights { Every (λ w. nat_abs w ≤ 13) weights }
     ensures { result.0 ≡ weigh weights (shares gas) }
 {
     let mut sum = Tally(0);
-    let mut i = 0;
-    while i < GASES {
+    for i in 0..GASES {
         let x = gas[i];
         let w = weights[i];
         sum = Tally(sum.0 + w * x.0 as i64);
-        i += 1;
     }
     sum
 }
 
+// A test against a number of its own, as `analysed` of `lines` is: the number is all that there is to it.
 // Whether a sum of shares is the whole.
 fn whole(sum: Tally) -> bool
     ensures { result ≡ same sum.0 (pos 10000) }
 {
-    sum.0 <= 10_000 && 10_000 <= sum.0
+    sum.0 == 10_000
 }
 
 // Whether there is any of it.
@@ -89,44 +75,18 @@ fn unburnable(gas: [Share; GASES]) -> bool
 {
     let full = whole(weighed(gas, [1; GASES]));
     let burns = any(weighed(gas, AIR));
-    if full { !burns } else { true }
-}
-
-// Reads the form of the line into an array of zeros, as `due` does with every other line.
-// By itself, for the compiler: docs/DECISIONS.md, "A line's place stays out of memory".
-fn gas_form(s: &[u8], p: Place, v: &mut [i64; FIELDS_MOST]) -> Place
-    requires ready { Ready s.now p }
-    requires v_value { v.old ≡ zeros }
-    ensures { FormAfter s.now p (bytes "gas=") gases result v.new }
-{
-    if p.number == 0 {
-        if quick::keyed(s, p.at, b"gas=") {
-            if let Some(next) = quick::row(s, p.at + 4, GASES, v) {
-                return onward(p.line, next);
-            }
-        }
-        return careful(s, p, b"gas=", GASES, v);
-    }
-    p
-}
-
-#[derive(Drop)]
-pub struct GasLine {
-    pub place: Place,
-    pub gas: [Share; GASES],
+    !(full && burns)
 }
 
 // The line `gas`.
-pub fn gas_line(s: &[u8], p: Place) -> GasLine
+pub fn gas_line(s: &[u8], p: Place) -> Heard<[Share; GASES]>
     requires { Ready s.now p }
-    ensures { After s.now p (read_line gas_line (gas-rule [])) result.place (λ row. shares result.gas ≡ row.numbers) }
+    ensures { After s.now p (read_line gas_line (gas-rule [])) result.place (λ row. shares result.said ≡ row.numbers) }
 {
-    let mut numbers = [0; FIELDS_MOST];
-    let q = gas_form(s, p, &mut numbers);
-    let v = due::numbers(numbers);
-    let t = gas_of(v);
-    let inside = ranged(p.line, q, t.fault);
-    let gas = t.gas;
-    let place = ruled(p.line, inside, unburnable(gas), Refusal::Shares);
-    GasLine { place, gas }
+    let gas = line(s, p, b"gas=", GASES, gas_of);
+    let said = gas.said;
+    Heard {
+        place: ruled(p.line, gas.place, unburnable(said), Refusal::Shares),
+        said,
+    }
 }
