@@ -12,8 +12,7 @@ use Rattle.sheet.specs.Quantities.{setters_most, parts_most}
 use Rattle.due.specs.declared.Place.{Place}
 use Rattle.due.specs.Place.{After}
 use Rattle.due.specs.Block.{Filled, With}
-use Rattle.blocks.specs.declared.setters.SetterBlock.{SetterBlock}
-use Rattle.blocks.specs.declared.parts.PartBlock.{PartBlock}
+use Rattle.due.specs.declared.Heard.{Heard}
 use Rattle.blocks.specs.declared.Loading.{Loading}
 use Rattle.due.specs.Said.{Saying, says_all}
 
@@ -24,11 +23,11 @@ SetterRows x = Filled setter setter_of blank_setter setters_most x.count.0 x.lin
 abbrev pub PartRows : Parts → List Row → Type 0
 PartRows x = Filled part part_of blank_part parts_most x.count.0 x.lines
 
-abbrev pub SettersRead : List ℕ → Place → SetterBlock → Type 0
-SettersRead s p r = (seen : Sheet) → After s p (read_paragraph setters.paragraph seen) r.place (With setter_line seen (SetterRows r.setters))
+abbrev pub SettersRead : List ℕ → Place → Heard Setters → Type 0
+SettersRead s p r = (seen : Sheet) → After s p (read_paragraph setters.paragraph seen) r.place (With setter_line seen (SetterRows r.said))
 
-abbrev pub PartsRead : List ℕ → Place → PartBlock → Type 0
-PartsRead s p r = (seen : Sheet) → After s p (read_paragraph parts.paragraph seen) r.place (With part_line seen (PartRows r.parts))
+abbrev pub PartsRead : List ℕ → Place → Heard Parts → Type 0
+PartsRead s p r = (seen : Sheet) → After s p (read_paragraph parts.paragraph seen) r.place (With part_line seen (PartRows r.said))
 
 abbrev pub loading_says : Loading → List Saying
 loading_says r = says_all setter_line (SetterRows r.setters) ∷ says_all part_line (PartRows r.parts) ∷ []

@@ -12,30 +12,27 @@ ghost use Rattle.blocks.specs.Loads.{loading_says};
 
 use crate::parts::part_block;
 use crate::setters::setter_block;
-use due::Place;
+use due::{Heard, Place};
 use sheet::{Parts, Setters};
 
 #[derive(Drop)]
 pub struct Loading {
-    pub place: Place,
     pub setters: Setters,
     pub parts: Parts,
 }
 
 // The setters and the parts.
-pub fn loading_lines(s: &[u8], p: Place) -> Loading
+pub fn loading_lines(s: &[u8], p: Place) -> Heard<Loading>
     requires { Ready s.now p }
-    ensures { GroupRead s.now p (paragraphs_of loading) result.place (loading_says result) }
+    ensures { GroupRead s.now p (paragraphs_of loading) result.place (loading_says result.said) }
 {
-    let a = setter_block(s, p);
-    let q = a.place;
-    let b = part_block(s, q);
-    let place = b.place;
-    let setters = a.setters;
-    let parts = b.parts;
-    Loading {
-        place,
-        setters,
-        parts,
+    let setters = setter_block(s, p);
+    let parts = part_block(s, setters.place);
+    Heard {
+        place: parts.place,
+        said: Loading {
+            setters: setters.said,
+            parts: parts.said,
+        },
     }
 }
