@@ -12,13 +12,12 @@ use Rattle.document.specs.Reader.{Sheet, read_line, read_rows, read_paragraph}
 use Rattle.document.specs.Document01.{section_line, sections}
 use Rattle.document.specs.Rows.{section_of}
 use Rattle.due.specs.declared.Place.{Place}
-use Rattle.sections.specs.declared.SectionLine.{SectionLine}
+use Rattle.due.specs.declared.Heard.{Heard}
 use Rattle.due.specs.Place.{After}
 use Rattle.due.specs.Block.{Filled, lacks, With}
 use Rattle.sheet.specs.Blank.{blank_section}
 use Rattle.sheet.specs.declared.Sections.{Sections}
 use Rattle.sheet.specs.Quantities.{sections_most}
-use Rattle.sections.specs.declared.SectionBlock.{SectionBlock}
 
 -- the sections' numbers, by which they are looked up
 abbrev pub numbers : List Sectionˢ → List ℕ
@@ -34,11 +33,11 @@ pub record Distinct (S : List Section) : Type 0 where
   pub apart : (i : ℕ) (d : Section) → i < length S → is_listed (take i S) (get_or S i d).number ≡ false
 
 -- a section line and its rule, by any sections above it that have these numbers
-abbrev pub NewSection : List ℕ → Place → List ℕ → ℕ → SectionLine → Type 0
+abbrev pub NewSection : List ℕ → Place → List ℕ → ℕ → Heard Sectionˢ → Type 0
 NewSection s p above i r =
     (lines : List Sectionˢ) → above ≡ numbers lines
     → let rule : Row → Option Refusal = λ row. section_fault (map section (take i lines)) (section_of row) in
-    After s p (read_line section_line rule) r.place (λ row. (section r.section ≡ section_of row) × (rule row ≡ none))
+    After s p (read_line section_line rule) r.place (λ row. (section r.said ≡ section_of row) × (rule row ≡ none))
 
 -- the rows of the sections, no number twice
 pub record SectionsShown (k : ℕ) (lines : List Sectionˢ) (rows : List Row) : Type 0 where
@@ -56,7 +55,7 @@ sections_of x = map section (take x.count.0 x.lines)
 abbrev pub SectionRows : Sections → List Row → Type 0
 SectionRows x = SectionsShown x.count.0 x.lines
 
-pub record SectionsRead (s : List ℕ) (p : Place) (r : SectionBlock) : Type 0 where
+pub record SectionsRead (s : List ℕ) (p : Place) (r : Heard Sections) : Type 0 where
   pub after : (seen : Sheet) → lacks (bytes "section") seen ≡ true
-      → After s p (read_paragraph sections.paragraph seen) r.place (With section_line seen (SectionRows r.sections))
-  pub within : r.sections.count.0 ≤ sections_most
+      → After s p (read_paragraph sections.paragraph seen) r.place (With section_line seen (SectionRows r.said))
+  pub within : r.said.count.0 ≤ sections_most

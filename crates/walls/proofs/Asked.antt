@@ -12,7 +12,8 @@ use Rattle.document.specs.Rows.{section_row, section_of, stage_of, edition_in, s
 use Rattle.document.specs.Document01.{stage_line, section_line}
 use Rattle.due.specs.declared.Place.{Place}
 use Rattle.due.specs.Place.{good, Fair}
-use Rattle.walls.specs.declared.rows.WallRows.{WallRows}
+use Rattle.sheet.specs.declared.SectionReadings.{SectionReadings}
+use Rattle.due.specs.declared.Heard.{Heard}
 use Rattle.due.proofs.Above.{rows_other}
 use Rattle.walls.specs.Surfaces.{WallsRead}
 
@@ -37,7 +38,7 @@ pub record Passes (s : List ℕ) (p q : Place) : Type 0 where
   pub passes : good p ≡ false → q ≡ p
   pub fair : good q ≡ true → Fair s q
 
-pub walls_pass : (s : List ℕ) (p : Place) (S : List Section) (k : ℕ) (r : WallRows) → WallsRead s p S k r → Passes s p r.place
+pub walls_pass : (s : List ℕ) (p : Place) (S : List Section) (k : ℕ) (r : Heard (List SectionReadings)) → WallsRead s p S k r → Passes s p r.place
 walls_pass s p S k r h =
     let a = h (some-sheet S k) refl (rows_back S) (length-map (replicate k (plain [])) stage_of ∙ length-replicate k (plain [])) in
     record { passes = a.passes; fair = a.fair }

@@ -33,21 +33,22 @@ use Rattle.walls.specs.Cells.{Placed, read_at, by_section}
 use Rattle.walls.specs.Walls.{wall, six, Named, WallsShown}
 use Rattle.walls.proofs.Readings.{laid-read, laid_more, placed-more}
 use Rattle.walls.proofs.Rulings.{seven, nine, in_order, fault_is}
+use Rattle.due.specs.declared.Heard.{Heard}
 
 -- the cells with the line's reading in its own
-abbrev pub stored : NamedWall → List SectionReadings → List SectionReadings
-stored r cells = lay cells r.row (column (wall r.wall)) (reading (wall r.wall))
+abbrev pub stored : Heard NamedWall → List SectionReadings → List SectionReadings
+stored r cells = lay cells r.said.row (column (wall r.said.wall)) (reading (wall r.said.wall))
 
 -- whether that cell was read
-abbrev seen_in : NamedWall → List SectionReadings → Bool
-seen_in r cells = read_at cells r.row (column (wall r.wall))
+abbrev seen_in : Heard NamedWall → List SectionReadings → Bool
+seen_in r cells = read_at cells r.said.row (column (wall r.said.wall))
 
 -- the place after rules 7 and 9, by what lies in the line's cell
-abbrev settled_by : ℕ → NamedWall → Reading → Place
-settled_by n r there = ruled n (ruled n r.place (was_read there) ReadTwice) (lt_z r.wall.surface.0 r.wall.air.0) Colder
+abbrev settled_by : ℕ → Heard NamedWall → Reading → Place
+settled_by n r there = ruled n (ruled n r.place (was_read there) ReadTwice) (lt_z r.said.wall.surface.0 r.said.wall.air.0) Colder
 
-abbrev pub settled : ℕ → NamedWall → List SectionReadings → Place
-settled n r cells = settled_by n r (cell cells r.row (column (wall r.wall)))
+abbrev pub settled : ℕ → Heard NamedWall → List SectionReadings → Place
+settled n r cells = settled_by n r (cell cells r.said.row (column (wall r.said.wall)))
 
 -- CELLS IN ROWS: the code lays the readings into rows of cells, which become the sections' readings at the end.
 module _ (rows : List (List Reading)) where
@@ -61,22 +62,22 @@ module _ (rows : List (List Reading)) where
       ∙ ap (λ (row : SectionReadings). set (by_section rows) i (record { stages = set row.stages j x })) (sym (row_at i))
 
   -- The place by what lies in the row's cell.
-  pub settled-row : (n : ℕ) (r : NamedWall) (q : Place) → q ≡ settled_by n r (get_or (get_or rows r.row []) (column (wall r.wall)) unread)
+  pub settled-row : (n : ℕ) (r : Heard NamedWall) (q : Place) → q ≡ settled_by n r (get_or (get_or rows r.said.row []) (column (wall r.said.wall)) unread)
       → q ≡ settled n r (by_section rows)
-  settled-row n r q e = e ∙ ap (λ (row : SectionReadings). settled_by n r (get_or row.stages (column (wall r.wall)) unread)) (sym (row_at r.row))
+  settled-row n r q e = e ∙ ap (λ (row : SectionReadings). settled_by n r (get_or row.stages (column (wall r.said.wall)) unread)) (sym (row_at r.said.row))
 
-settled-passes : (n : ℕ) (r : NamedWall) (cells : List SectionReadings) → good r.place ≡ false → settled n r cells ≡ r.place
+settled-passes : (n : ℕ) (r : Heard NamedWall) (cells : List SectionReadings) → good r.place ≡ false → settled n r cells ≡ r.place
 settled-passes n r cells h =
     let once = ruled n r.place (seen_in r cells) ReadTwice in
     let e = not_good n r.place ReadTwice (good r.place) (seen_in r cells) h in
-    not_good n once Colder (good once) (lt_z r.wall.surface.0 r.wall.air.0) (ap (λ (y : Place). good y) e ∙ h) ∙ e
+    not_good n once Colder (good once) (lt_z r.said.wall.surface.0 r.said.wall.air.0) (ap (λ (y : Place). good y) e ∙ h) ∙ e
 
-pub settled-fair : {s : List ℕ} (n : ℕ) (r : NamedWall) (cells : List SectionReadings) → (good r.place ≡ true → Fair s r.place)
+pub settled-fair : {s : List ℕ} (n : ℕ) (r : Heard NamedWall) (cells : List SectionReadings) → (good r.place ≡ true → Fair s r.place)
     → good (settled n r cells) ≡ true → Fair s (settled n r cells)
 settled-fair {s} n r cells f =
     let read = seen_in r cells in
     let once = ruled n r.place read ReadTwice in
-    good_test n once Colder s (good once && lt_z r.wall.surface.0 r.wall.air.0) (good_test n r.place ReadTwice s (good r.place && read) f)
+    good_test n once Colder s (good once && lt_z r.said.wall.surface.0 r.said.wall.air.0) (good_test n r.place ReadTwice s (good r.place && read) f)
 
 agree : {S S' : List Section} {k k' : ℕ} {ws ws' : List Wall} (x : Wall) → S ≡ S' → k ≡ k' → ws ≡ ws' → in_order S k ws x ≡ in_order S' k' ws' x
 agree x p q r = rw (p, q, r)
@@ -96,13 +97,13 @@ module _ (s : List ℕ) (S : List Section) (k : ℕ) (few : length S ≤ section
       let walls-are : walls_in here ≡ map wall_of rows = ap (map wall_of) (rows-here wall_line rows seen none_yet) in
       sym (fault_is (stages_in here) (sections_in here) (walls_in here) (wall_of row) ∙ agree (wall_of row) S-is k-is walls-are)
 
-  module _ (cells : List SectionReadings) (rows : List Row) (shown : WallsShown S cells rows) (r : NamedWall) where
+  module _ (cells : List SectionReadings) (rows : List Row) (shown : WallsShown S cells rows) (r : Heard NamedWall) where
     -- 7 by the cell
     read_is : (row : Row) → Named S r row → is_read (map wall_of rows) (wall_of row).section (wall_of row).stage ≡ seen_in r cells
     read_is row h =
         ap (λ (x : Wall). is_read (map wall_of rows) x.section x.stage) (sym h.shown)
-        ∙ sym (laid-read S few (wall r.wall) h.placed (map wall_of rows) shown.placed)
-        ∙ ap₂ (λ (c : List SectionReadings) (i : ℕ). read_at c i (column (wall r.wall))) (sym shown.lie) (sym h.here)
+        ∙ sym (laid-read S few (wall r.said.wall) h.placed (map wall_of rows) shown.placed)
+        ∙ ap₂ (λ (c : List SectionReadings) (i : ℕ). read_at c i (column (wall r.said.wall))) (sym shown.lie) (sym h.here)
 
     -- the reading in its cell
     wall-shown : (row : Row) → Named S r row → WallsShown S (stored r cells) (rows ++ (row ∷ []))
@@ -110,7 +111,7 @@ module _ (s : List ℕ) (S : List Section) (k : ℕ) (few : length S ≤ section
         let one = map-append wall_of rows (row ∷ []) in
         record {
           lie =
-              ap (λ (i : ℕ). lay cells i (column (wall r.wall)) (reading (wall r.wall))) h.here
+              ap (λ (i : ℕ). lay cells i (column (wall r.said.wall)) (reading (wall r.said.wall))) h.here
               ∙ ap₂ (λ (c : List SectionReadings) (x : Wall). lay c (before x.section S) (column x) (reading x)) shown.lie h.shown
               ∙ sym (laid_more S unread_sections (map wall_of rows) (wall_of row)) ∙ ap (laid S unread_sections) (sym one);
           placed = rw one (placed-more S (map wall_of rows) (wall_of row) shown.placed (subst (Placed S) h.shown h.placed));
@@ -122,7 +123,7 @@ module _ (s : List ℕ) (S : List Section) (k : ℕ) (few : length S ≤ section
         (λ row. WallsShown S (stored r cells) (rows ++ (row ∷ [])))
     ruled-wall q a =
         let read = seen_in r cells in
-        let cold = lt_z r.wall.surface.0 r.wall.air.0 in
+        let cold = lt_z r.said.wall.surface.0 r.said.wall.air.0 in
         let once = ruled q.line r.place read ReadTwice in
         let by-six : Row → Option Refusal = λ row. six S k (wall_of row) in
         let by-seven : Row → Option Refusal = λ row. seven (map wall_of rows) (wall_of row) in
@@ -143,7 +144,7 @@ module _ (s : List ℕ) (S : List Section) (k : ℕ) (few : length S ≤ section
   if_good true m e same x = rw (same e) x
   if_good {p} {q} {cells} {cells'} false m e same x = after-refused s p q m (WallsShown S cells) (WallsShown S cells') e x
 
-  pub next : (p q : Place) (r : NamedWall) (i : ℕ) (cells cells' : List SectionReadings)
+  pub next : (p q : Place) (r : Heard NamedWall) (i : ℕ) (cells cells' : List SectionReadings)
       → After s p (read_rows i wall_line wall-rule seen []) q (WallsShown S cells)
       → After s q (read_line wall_line (λ row. six S k (wall_of row))) r.place (Named S r)
       → (good (settled q.line r cells) ≡ true → cells' ≡ stored r cells)

@@ -3,6 +3,7 @@ ghost use Rattle.std.specs.Prelude.{◌≡◌, ◌≤◌, ◌<◌};
 ghost use Rattle.sheet.specs.Quantities.{sections_most, stages_most};
 ghost use Rattle.walls.specs.Cells.{row_read, all_read};
 
+use limits::Count;
 use quantity::sheet::SectionCount;
 use sheet::SectionReadings;
 
@@ -11,12 +12,9 @@ fn row_read(readings: SectionReadings, stages: usize) -> bool
     requires { stages ≤ stages_most }
     ensures { result ≡ row_read readings stages }
 {
-    let mut stage = 0;
-    while stage < stages {
+    for stage in 0..stages {
         let there = readings.stages[stage];
-        if there.read == 1 {
-            stage += 1;
-        } else {
+        if there.read != 1 {
             return false;
         }
     }
@@ -32,12 +30,9 @@ pub fn all_read(
     requires { (sections ≤ sections_most) × (stages ≤ stages_most) }
     ensures { result ≡ all_read readings sections stages }
 {
-    let mut row = 0;
-    while row < sections {
+    for row in 0..sections {
         let there = readings[row];
-        if row_read(there, stages) {
-            row += 1;
-        } else {
+        if !row_read(there, stages) {
             return false;
         }
     }

@@ -9,29 +9,27 @@ ghost use Rattle.walls.specs.Cells.{by_section};
 ghost use Rattle.walls.specs.Walls.{nowhere, NamedAfter, WallsAfter};
 ghost use Rattle.walls.specs.Surfaces.{WallsRead};
 
-use crate::line::{Wall, colder, reading_of, wall_count, wall_line};
-use due::{Place, ruled};
-use quantity::sheet::{SectionCount, StageCount};
+use crate::line::{Wall, colder, reading_of, wall_line};
+use due::{Heard, Place, counted_line, ruled};
+use limits::Count;
+use quantity::sheet::{SectionCount, StageCount, WallCount};
 use sections::section_place;
 use sheet::{Reading, Refusal, Section, SectionReadings, Sections};
 
-// A wall line with the place of its section among the sections, from 0; a refused one has the first.
+// A wall line's reading with the place of its section among the sections, from 0; a refused one has the first.
 #[derive(Drop)]
 pub struct NamedWall {
-    pub place: Place,
     pub wall: Wall,
     pub row: usize,
 }
 
 // A wall line that names a section or a stage which there is not.
-fn unnamed(line: usize, q: Place, wall: Wall) -> NamedWall
+fn unnamed(line: usize, q: Place, wall: Wall) -> Heard<NamedWall>
     ensures { result ≡ nowhere line q wall }
 {
-    let place = ruled(line, q, true, Refusal::NoSuchWall);
-    NamedWall {
-        place,
-        wall,
-        row: 0,
+    Heard {
+        place: ruled(line, q, true, Refusal::NoSuchWall),
+        said: NamedWall { wall, row: 0 },
     }
 }
 
@@ -42,34 +40,33 @@ fn named_wall(
     numbers: &[usize; SectionCount::GREATEST],
     count: usize,
     stages: usize,
-) -> NamedWall
+) -> Heard<NamedWall>
     requires count_le_sections_most { (count ≤ sections_most) × (count ≤ length numbers.now) }
     requires ready { Ready s.now p }
     ensures { NamedAfter s.now p numbers.now count stages result }
 {
-    let l = wall_line(s, p);
-    let wall = l.wall;
-    let place = l.place;
-    let number = wall.section;
-    let stage = wall.stage;
-    let row = section_place(numbers, count, number);
+    let heard = wall_line(s, p);
+    let place = heard.place;
+    let wall = heard.said;
+    let row = section_place(numbers, count, wall.section);
     if count <= row {
         return unnamed(p.line, place, wall);
     }
-    if stages < stage.0 {
+    if stages < wall.stage.0 {
         return unnamed(p.line, place, wall);
     }
-    NamedWall { place, wall, row }
+    Heard {
+        place,
+        said: NamedWall { wall, row },
+    }
 }
 
 // Rules 7 and 9 on a wall line, by what lies in its cell.
 fn read_once(line: usize, q: Place, there: Reading, w: Wall) -> Place
     ensures { result ≡ ruledPlace line (ruledPlace line q (was_read there) ReadTwice) (lt_z w.surface.0 w.air.0) Colder }
 {
-    let surface = w.surface;
-    let air = w.air;
     let read = there.read == 1;
-    let cold = colder(surface, air);
+    let cold = colder(w.surface, w.air);
     let first = ruled(line, q, read, Refusal::ReadTwice);
     ruled(line, first, cold, Refusal::Colder)
 }
@@ -82,19 +79,11 @@ fn by_section(
 {
     let none = sheet::blank::section_readings();
     let mut readings = [none; SectionCount::GREATEST];
-    let mut i = 0;
-    while i < SectionCount::GREATEST {
+    for i in 0..SectionCount::GREATEST {
         let stages = cells[i];
         readings[i] = SectionReadings { stages };
-        i += 1;
     }
     readings
-}
-
-#[derive(Drop)]
-pub struct WallRows {
-    pub place: Place,
-    pub readings: [SectionReadings; SectionCount::GREATEST],
 }
 
 // n lines `wall`, laid into the cells of their section and stage.
@@ -106,46 +95,51 @@ fn wall_rows(
     sections: [Section; SectionCount::GREATEST],
     count: usize,
     stages: usize,
-) -> WallRows
+) -> Heard<[SectionReadings; SectionCount::GREATEST]>
     requires count_le_sections_most { count ≤ sections_most }
     requires ready { Ready s.now start }
-    ensures { WallsAfter s.now start n (map section (take count sections)) stages result.place result.readings }
+    ensures { WallsAfter s.now start n (map section (take count sections)) stages result.place result.said }
 {
     let none = sheet::blank::reading();
     let numbers = sections::numbers_of(sections);
     let blank = [none; StageCount::GREATEST];
     let mut cells = [blank; SectionCount::GREATEST];
-    let mut p = start;
-    let mut i = 0;
-    while i < n {
-        let l = named_wall(s, p, &numbers, count, stages);
-        let w = l.wall;
-        let row = l.row;
-        let stage = w.stage;
-        let column = stage.0 - 1;
+    let mut place = start;
+    for _ in 0..n {
+        let heard = named_wall(s, place, &numbers, count, stages);
+        let wall = heard.said.wall;
+        let row = heard.said.row;
+        let column = wall.stage.0 - 1;
         let there = cells[row][column];
-        let q = l.place;
-        p = read_once(p.line, q, there, w);
-        if p.number == 0 {
-            let x = reading_of(w);
+        place = read_once(place.line, heard.place, there, wall);
+        if place.number == 0 {
+            let x = reading_of(wall);
             cells[row][column] = x;
         }
-        i += 1;
     }
-    let readings = by_section(cells);
-    WallRows { place: p, readings }
+    let said = by_section(cells);
+    Heard { place, said }
 }
 
 // The line `walls` and its lines `wall`, for the first sections and so many stages.
-pub fn wall_block(s: &[u8], p: Place, sections: Sections, stages: usize) -> WallRows
+pub fn wall_block(
+    s: &[u8],
+    p: Place,
+    sections: Sections,
+    stages: usize,
+) -> Heard<[SectionReadings; SectionCount::GREATEST]>
     requires count_le_sections_most { sections.count.0 ≤ sections_most }
     requires ready { Ready s.now p }
     ensures { WallsRead s.now p (map section (take sections.count.0 sections.lines)) stages result }
 {
-    let n = wall_count(s, p);
-    let walls = n.count;
-    let q = n.place;
-    let count = sections.count;
+    let walls = counted_line::<WallCount>(s, p, b"walls=");
     let lines = sections.lines;
-    wall_rows(s, q, walls.0, lines, count.0, stages)
+    wall_rows(
+        s,
+        walls.place,
+        walls.said.0,
+        lines,
+        sections.count.0,
+        stages,
+    )
 }
