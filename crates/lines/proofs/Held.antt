@@ -21,7 +21,6 @@ use Rattle.document.specs.Entries.{paragraphs_of}
 use Rattle.document.specs.Document01.{sheet_line, end_line, heading, fuelling, drying, loading, surfaces, ending}
 use Rattle.document.specs.Sheet2.{staging_by}
 use Rattle.document.specs.Editions.{entries_by, lines_of, document}
-use Rattle.document.proofs.Cases.{clash}
 use Rattle.walls.specs.Cells.{Placed}
 use Rattle.sheet.specs.Block.{stages_of}
 use Rattle.sheet.specs.Blank.{blank_stage, blank_setter, blank_part, blank_section}
@@ -30,14 +29,15 @@ use Rattle.fuel.specs.Fuel.{shares}
 use Rattle.due.specs.declared.Place.{Place}
 use Rattle.due.specs.Place.{After}
 use Rattle.due.proofs.Places.{after_bind, after_weaker}
-use Rattle.lines.specs.declared.ends.EditionLine.{EditionLine}
-use Rattle.lines.specs.declared.ends.ClosingLine.{ClosingLine}
+use Rattle.quantity.specs.declared.sheet.Edition.{Edition}
+use Rattle.quantity.specs.declared.sheet.Closing.{Closing}
+use Rattle.due.specs.declared.Heard.{Heard}
 use Rattle.due.proofs.Fills.{filled-most}
 use Rattle.due.proofs.Sequence.{pass_on, one-after}
 use Rattle.head.specs.declared.heading.Heading.{Heading}
 use Rattle.fuel.specs.declared.Fuelling.{Fuelling}
 use Rattle.head.specs.declared.drying.Drying.{Drying}
-use Rattle.stages.specs.declared.Staging.{Staging}
+use Rattle.sheet.specs.declared.Stages.{Stages}
 use Rattle.blocks.specs.declared.Loading.{Loading}
 use Rattle.walls.specs.declared.Surfaces.{Surfaces}
 use Rattle.due.specs.Said.{Saying, says, Said, GroupRead}
@@ -46,7 +46,7 @@ use Rattle.fuel.specs.Fuel.{fuelling_says}
 use Rattle.stages.specs.Stages.{held_by, itself, staging_says, StagesRead}
 use Rattle.blocks.specs.Loads.{loading_says}
 use Rattle.walls.specs.Surfaces.{surfaces_say, Below, SurfacesRead}
-use Rattle.lines.specs.All.{head_of, Settled, Blanked, Held}
+use Rattle.lines.specs.All.{head_of, Blanked, Held}
 use Rattle.due.specs.Block.{Filled}
 use Rattle.due.proofs.Said.{none_read, line-then, group_then, ◌then◌, lacks-kept}
 
@@ -57,7 +57,7 @@ blanked : {A B : Type 0} (view : A → B) (of : Row → B) (blank : A) (most : �
     → Filled view of blank most k lines rows → Blanked blank most k lines
 blanked view of blank most f = record { long = f.size; fits = filled-most view of blank most f; rest = f.rest }
 
--- what the structs of rows show, and that nothing else stands in them
+-- what the structs of rows show
 same_list : (l : List Stageˢ) → map itself l ≡ l
 same_list [] = refl
 same_list (x ∷ l) = ap (λ (m : List Stageˢ). x ∷ m) (same_list l)
@@ -67,24 +67,19 @@ held-shows flue [] = refl
 held-shows true (r ∷ rows) = ap (λ (m : List Stage). stage_by true r ∷ m) (held-shows true rows)
 held-shows false (r ∷ rows) = ap (λ (m : List Stage). stage_by false r ∷ m) (held-shows false rows)
 
-held-settled : (flue : Bool) (rows : List Row) → Every Settled (map (held_by flue) rows)
-held-settled flue [] = tt
-held-settled true (r ∷ rows) = (λ e. clash cc, held-settled true rows)
-held-settled false (r ∷ rows) = (λ e. refl, held-settled false rows)
-
 -- whether the flue is analysed, as the first line says
-abbrev flue_of : EditionLine → Bool
-flue_of e = analysed (pos e.edition.0)
+abbrev flue_of : Edition → Bool
+flue_of e = analysed (pos e.0)
 
 lines_are : (flue : Bool) {k : ℕ} {lines : List Stageˢ} {rows : List Row} → Filled itself (held_by flue) blank_stage stages_most k lines rows
     → take k lines ≡ map (held_by flue) rows
 lines_are flue {k} {lines} f = sym (same_list (take k lines)) ∙ f.shown
 
-module _ (e : EditionLine) (h : Heading) (f : Fuelling) (d : Drying) (a : Staging) (b : Loading) (c : Surfaces) where
+module _ (e : Edition) (h : Heading) (f : Fuelling) (d : Drying) (a : Stages) (b : Loading) (c : Surfaces) where
   abbrev sheet_from : Sheetˢ
   sheet_from = record {
-    head = head_of e.edition h f d;
-    stages = a.stages;
+    head = head_of e h f d;
+    stages = a;
     setters = b.setters;
     parts = b.parts;
     sections = c.sections;
@@ -98,7 +93,7 @@ module _ (e : EditionLine) (h : Heading) (f : Fuelling) (d : Drying) (a : Stagin
   abbrev below_says : (Row → Type 0) → List Saying
   below_says Z = surfaces_say c ++ (says end_line Z ∷ [])
 
-  below : (edition : Row) (sheet : Sheet) → Said above_says (filled sheet_line (edition ∷ [])) sheet → Below a.stages.count.0 sheet
+  below : (edition : Row) (sheet : Sheet) → Said above_says (filled sheet_line (edition ∷ [])) sheet → Below a.count.0 sheet
   below edition sheet m =
       let air = m.2.2.2.2.2 in
       let stages = air.2.2.2.2 in
@@ -114,7 +109,7 @@ module _ (e : EditionLine) (h : Heading) (f : Fuelling) (d : Drying) (a : Stagin
       }
 
   -- the struct shows what all lines say
-  held : length f.gas ≡ gases → (Z : Row → Type 0) (edition : Row) → pos e.edition.0 ≡ at edition 0 → (sheet : Sheet)
+  held : length f.gas ≡ gases → (Z : Row → Type 0) (edition : Row) → pos e.0 ≡ at edition 0 → (sheet : Sheet)
       → Said (above_says ++ below_says Z) (filled sheet_line (edition ∷ [])) sheet → Held sheet_from sheet
   held long Z edition is sheet firing =
       let product = firing.2 in
@@ -133,7 +128,7 @@ module _ (e : EditionLine) (h : Heading) (f : Fuelling) (d : Drying) (a : Stagin
       let whole = walls.2.2 in
       let shown = sections.1.filled in
       let W = map wall_of walls.0 in
-      let S : map (stage_as (at edition 0)) stages.0 ≡ stages_of a.stages =
+      let S : map (stage_as (at edition 0)) stages.0 ≡ stages_of a =
       ap (λ (z : ℤ). map (stage_as z) stages.0) (sym is) ∙ sym (held-shows (flue_of e) stages.0)
       ∙ ap (map stage) (sym (lines_are (flue_of e) stages.1)) in
       subst (λ (x : Sheet). Held sheet_from x) (sym whole)
@@ -161,7 +156,6 @@ module _ (e : EditionLine) (h : Heading) (f : Fuelling) (d : Drying) (a : Stagin
         trimmed = record {
           gas = long;
           stages = blanked itself (held_by (flue_of e)) blank_stage stages_most stages.1;
-          analyses = subst (Every Settled) (sym (lines_are (flue_of e) stages.1)) (held-settled (flue_of e) stages.0);
           setters = blanked setter setter_of blank_setter setters_most setters.1;
           parts = blanked part part_of blank_part parts_most parts.1;
           sections = blanked section section_of blank_section sections_most shown;
@@ -181,20 +175,20 @@ unfolding entries_by
 all_of true = refl
 all_of false = refl
 
-module _ (s : List ℕ) (start : Place) (e : EditionLine) (h : Heading) (f : Fuelling) (d : Drying) (a : Staging) (b : Loading) (c : Surfaces)
-    (z : ClosingLine) (Z : Row → Type 0) (long : length f.gas ≡ gases)
-    (he : After s start (read_line sheet_line (λ row. none)) e.place (λ row. pos e.edition.0 ≡ at row 0))
-    (hh : GroupRead s e.place (paragraphs_of heading) h.place (heading_says h))
-    (hf : GroupRead s h.place (paragraphs_of fuelling) f.place (fuelling_says f))
-    (hd : GroupRead s f.place (paragraphs_of drying) d.place (drying_says d))
-    (ha : StagesRead s d.place (flue_of e) a)
-    (hb : GroupRead s a.place (paragraphs_of loading) b.place (loading_says b))
-    (hc : SurfacesRead s b.place a.stages.count.0 c)
+module _ (s : List ℕ) (start : Place) (e : Heard Edition) (h : Heard Heading) (f : Heard Fuelling) (d : Heard Drying) (a : Heard Stages) (b : Heard Loading) (c : Heard Surfaces)
+    (z : Heard Closing) (Z : Row → Type 0) (long : length f.said.gas ≡ gases)
+    (he : After s start (read_line sheet_line (λ row. none)) e.place (λ row. pos e.said.0 ≡ at row 0))
+    (hh : GroupRead s e.place (paragraphs_of heading) h.place (heading_says h.said))
+    (hf : GroupRead s h.place (paragraphs_of fuelling) f.place (fuelling_says f.said))
+    (hd : GroupRead s f.place (paragraphs_of drying) d.place (drying_says d.said))
+    (ha : StagesRead s d.place (flue_of e.said) a)
+    (hb : GroupRead s a.place (paragraphs_of loading) b.place (loading_says b.said))
+    (hc : SurfacesRead s b.place a.said.count.0 c)
     (hz : After s c.place (read_line end_line (λ row. none)) z.place Z) where
   abbrev Q : Sheet → Type 0
-  Q = Held (sheet_from e h f d a b c)
+  Q = Held (sheet_from e.said h.said f.said d.said a.said b.said c.said)
 
-  above : GroupRead s e.place (above_lines (flue_of e)) b.place (above_says e h f d a b c)
+  above : GroupRead s e.place (above_lines (flue_of e.said)) b.place (above_says e.said h.said f.said d.said a.said b.said c.said)
   above = hh then hf then hd then ha.after then hb
 
   last : GroupRead s c.place (paragraphs_of ending) z.place (says end_line Z ∷ [])
@@ -205,20 +199,20 @@ module _ (s : List ℕ) (start : Place) (e : EditionLine) (h : Heading) (f : Fue
   lines_after =
       let below-read = paragraphs_of surfaces ++ paragraphs_of ending in
       after_bind s start e.place z.place (read_paragraph (one sheet_line free) []) (λ seen. read_paragraphs (lines_of (edition_in seen)) seen) _ Q
-      (one-after s sheet_line free [] start e.place (λ row. pos e.edition.0 ≡ at row 0) he)
+      (one-after s sheet_line free [] start e.place (λ row. pos e.said.0 ≡ at row 0) he)
       (λ t k.
       (let r = k.2.0 in
       let top = filled sheet_line (r ∷ []) in
-      let chosen : lines_of (at r 0) ≡ above_lines (flue_of e) ++ below-read = ap (λ (y : ℤ). lines_of y) (sym k.2.2) ∙ all_of (flue_of e) in
+      let chosen : lines_of (at r 0) ≡ above_lines (flue_of e.said) ++ below-read = ap (λ (y : ℤ). lines_of y) (sym k.2.2) ∙ all_of (flue_of e.said) in
       subst (λ (x : Sheet). After s e.place (read_paragraphs (lines_of (edition_in x)) x) z.place Q)
       (sym (k.1 ∙ ap (λ (y : List Row). filled sheet_line y) k.2.1))
       (subst (λ (ps : List Paragraph). After s e.place (read_paragraphs ps top) z.place Q) (sym chosen)
-      (after_weaker s e.place z.place _ (Said (above_says e h f d a b c ++ below_says e h f d a b c Z) top) Q (held e h f d a b c long Z r k.2.2)
-      (group_then (above_lines (flue_of e)) below-read (above_says e h f d a b c)
-      (below_says e h f d a b c Z) top
+      (after_weaker s e.place z.place _ (Said (above_says e.said h.said f.said d.said a.said b.said c.said ++ below_says e.said h.said f.said d.said a.said b.said c.said Z) top) Q (held e.said h.said f.said d.said a.said b.said c.said long Z r k.2.2)
+      (group_then (above_lines (flue_of e.said)) below-read (above_says e.said h.said f.said d.said a.said b.said c.said)
+      (below_says e.said h.said f.said d.said a.said b.said c.said Z) top
       (above.after top)
-      (λ sheet m. group_then (paragraphs_of surfaces) (paragraphs_of ending) (surfaces_say c) (says end_line Z ∷ []) sheet
-      (hc.after sheet (below e h f d a b c r sheet m))
+      (λ sheet m. group_then (paragraphs_of surfaces) (paragraphs_of ending) (surfaces_say c.said) (says end_line Z ∷ []) sheet
+      (hc.after sheet (below e.said h.said f.said d.said a.said b.said c.said r sheet m))
       (λ u n. last.after u) last.passes last.fair)
       (pass_on hc.passes last.passes) last.fair)))))
       (pass_on above.passes (pass_on hc.passes last.passes)) last.fair

@@ -1,8 +1,7 @@
 -- What the code has when it has read all lines.
-use Rattle.std.specs.Prelude.{ℕ, ◌-◌, ◌≤◌, ◌≡◌, List, false, length, take, drop, replicate}
+use Rattle.std.specs.Prelude.{ℕ, ◌-◌, ◌≤◌, ◌≡◌, List, length, drop, replicate}
 use Rattle.quantity.specs.declared.sheet.Edition.{Edition}
 use Rattle.sheet.specs.declared.Head.{Head}
-use Rattle.sheet.specs.declared.Stage.{Stage as Stageˢ}
 use Rattle.sheet.specs.declared.Sheet.{Sheet as Sheetˢ}
 use Rattle.sheet.specs.Shown.{Shows}
 use Rattle.document.specs.Reader.{Sheet, read_lines}
@@ -15,9 +14,9 @@ use Rattle.due.specs.declared.Place.{Place}
 use Rattle.head.specs.declared.heading.Heading.{Heading}
 use Rattle.fuel.specs.declared.Fuelling.{Fuelling}
 use Rattle.head.specs.declared.drying.Drying.{Drying}
-use Rattle.lines.specs.declared.Lines.{Lines}
+use Rattle.due.specs.declared.Heard.{Heard}
 use Rattle.due.specs.Place.{After}
-use Rattle.sheet.specs.Blank.{no_analysis, blank_stage, blank_setter, blank_part, blank_section}
+use Rattle.sheet.specs.Blank.{blank_stage, blank_setter, blank_part, blank_section}
 use Rattle.sheet.specs.Quantities.{gases, stages_most, setters_most, parts_most, sections_most}
 
 abbrev pub head_of : Edition → Heading → Fuelling → Drying → Head
@@ -40,15 +39,10 @@ pub record Blanked {A : Type 0} (blank : A) (most count : ℕ) (lines : List A) 
   pub fits : count ≤ most
   pub rest : drop count lines ≡ replicate (most - count) blank
 
--- a flue that was not analysed has no shares beside it
-abbrev pub Settled : Stageˢ → Type 0
-Settled x = x.analysis.read ≡ false → x.analysis ≡ no_analysis
-
 -- nothing stands in the struct but what it shows
 pub record Trimmed (x : Sheetˢ) : Type 0 where
   pub gas : length x.head.gas ≡ gases
   pub stages : Blanked blank_stage stages_most x.stages.count.0 x.stages.lines
-  pub analyses : Every Settled (take x.stages.count.0 x.stages.lines)
   pub setters : Blanked blank_setter setters_most x.setters.count.0 x.setters.lines
   pub parts : Blanked blank_part parts_most x.parts.count.0 x.parts.lines
   pub sections : Blanked blank_section sections_most x.sections.count.0 x.sections.lines
@@ -67,6 +61,6 @@ pub record Sized (x : Sheetˢ) : Type 0 where
   pub stages : x.stages.count.0 ≤ stages_most
   pub sections : x.sections.count.0 ≤ sections_most
 
-pub record LinesRead (s : List ℕ) (start : Place) (r : Lines) : Type 0 where
-  pub after : After s start (read_lines document) r.place (Held r.sheet)
-  pub sized : Sized r.sheet
+pub record LinesRead (s : List ℕ) (start : Place) (r : Heard Sheetˢ) : Type 0 where
+  pub after : After s start (read_lines document) r.place (Held r.said)
+  pub sized : Sized r.said

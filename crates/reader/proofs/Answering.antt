@@ -6,7 +6,7 @@ use mathlib.Core.List.{List, [], ◌∷◌}
 use native.Mathlib.Omega.{arith}
 use lib.Dec.{ltb, lit≤}
 use lib.ListN.{length, length-drop}
-use borrow.Author.Tests.{lt-ltb, le-ltb, ltb-true, ltb-false, eqb-true}
+use borrow.Author.Tests.{clash, lt-ltb, le-ltb, ltb-true, ltb-false, eqb-true}
 use Rattle.sheet.specs.declared.SectionReadings.{SectionReadings}
 use Rattle.sheet.specs.declared.Refusal.{Refusal}
 use Rattle.sheet.specs.declared.Refusal.TheVariants.{TooLong, Surplus, Missing, GasTotal}
@@ -25,13 +25,13 @@ use Rattle.document.specs.Rows.{stages_in, sections_in, walls_in, firing_of}
 use Rattle.document.specs.Lawful.{Lawful}
 use Rattle.document.proofs.Editions.{firing_lawful}
 use Rattle.document.proofs.Numbering.{refuses}
-use Rattle.sheet.specs.Blank.{blank_sheet}
 use Rattle.walls.specs.Cells.{all_read}
 use Rattle.walls.proofs.Missing.{all-read-is}
 use Rattle.due.specs.declared.Place.{Place}
-use Rattle.lines.specs.declared.Lines.{Lines}
+use Rattle.due.specs.declared.Heard.{Heard}
 use Rattle.lines.specs.All.{Held, Sized}
-use Rattle.reader.specs.declared.whole.Outcome.{Outcome}
+use Rattle.std.specs.Prelude.{Result, Ok, Err}
+use Rattle.reader.specs.declared.whole.Rejection.{Rejection}
 use Rattle.due.specs.Place.{good, refused_at, Fair, Ready, Stands, Meets, After}
 use Rattle.reader.specs.Whole.{top, line_ended, bottom, opening_as, gas_of, whole_as, verdict_as, Judged, Answers}
 use Rattle.due.proofs.Places.{not-both, refused-bad}
@@ -54,16 +54,16 @@ module _ {x : Sheetˢ} {sheet : Sheet} (h : Held x sheet) (z : Sized x) (s : Lis
   abbrev said_of : Bool → Bool → Answer
   said_of gas read = on (when (not gas) GasTotal else when (not read) Missing) (Good sheet) (λ r. Refused r 0)
 
-  rules : (gas read : Bool) → Judged s (said_of gas read) (record { place = cond gas (cond read q (refused_at Missing 0)) (refused_at GasTotal 0); sheet = x })
+  rules : (gas read : Bool) → Judged s (said_of gas read) (record { place = cond gas (cond read q (refused_at Missing 0)) (refused_at GasTotal 0); said = x })
   rules true true = (is, h.shows, h.trimmed)
   rules true false = refl
   rules false read = refl
 
-  whole-judged : Judged s (on (document.whole sheet) (Good sheet) (λ r. Refused r 0)) (record { place = whole_as q x; sheet = x })
+  whole-judged : Judged s (on (document.whole sheet) (Good sheet) (λ r. Refused r 0)) (record { place = whole_as q x; said = x })
   whole-judged =
       let gas = ap (within gas_total) (gas-same h) in
       let read = read_same h z in
-      subst (λ (a : Answer). Judged s a (record { place = whole_as q x; sheet = x })) (sym (ap₂ said_of gas read))
+      subst (λ (a : Answer). Judged s a (record { place = whole_as q x; said = x })) (sym (ap₂ said_of gas read))
       (rules (within gas_total (gas_of x)) (all_read x.readings x.sections.count.0 x.stages.count.0))
 
 module _ (s : List ℕ) (q : Place) (x : Sheetˢ) (z : Sized x) where
@@ -77,7 +77,7 @@ module _ (s : List ℕ) (q : Place) (x : Sheetˢ) (z : Sized x) where
 
   -- the rules of the whole sheet, after the lines
   lines-judged : (r : Read Sheet) → read_lines document 1 s ≡ r → (good q ≡ true → Fair s q) → Meets s r q (Held x)
-      → Judged s (judged_whole document r) (record { place = verdict_as (length s) q x; sheet = x })
+      → Judged s (judged_whole document r) (record { place = verdict_as (length s) q x; said = x })
   lines-judged (stopped y n) o f m = rw (ap good m ∙ refused-bad y n) m
   lines-judged (got sheet n []) o f m =
       let e : length s ≤ q.at = omega (arith, length-drop q.at s, ap length m.0.left) in
@@ -127,8 +127,8 @@ module _ (n : ℕ) (p : Place) (e : p ≡ opening_as n) where
 -- THE JUDGEMENT: t is what was looked at, all that a sheet of good length has
 module _ (s t : List ℕ) (all-of-it : length s ≤ sheet_most → t ≡ s) (q : Place) (x : Sheetˢ)
     (after : After t (opening_as (length s)) (read_lines document) q (Held x)) (z : Sized x) where
-  abbrev found : Lines
-  found = record { place = verdict_as (length s) q x; sheet = x }
+  abbrev found : Heard Sheetˢ
+  found = record { place = verdict_as (length s) q x; said = x }
 
   too_long : ltb sheet_most (length s) ≡ true → Judged s (read_of document s) found
   unfolding read_of
@@ -159,24 +159,24 @@ unfolding bottom
 behind-good s p e = ap good e
 
 -- THE ANSWER from it
-pub answer-refused : (s : List ℕ) (r : Lines) → Judged s (read_of document s) r → good r.place ≡ false
-    → Answers (read_of document s) (record { number = r.place.number; field = r.place.field; line = r.place.line; sheet = blank_sheet })
+pub answer-refused : (s : List ℕ) (r : Heard Sheetˢ) → Judged s (read_of document s) r → good r.place ≡ false
+    → Answers (read_of document s) (Err (record { number = r.place.number; field = r.place.field; line = r.place.line }))
 answer-refused s r h e = here (read_of document s) h
   where
-    rejected : Place → Outcome
-    rejected p = record { number = p.number; field = p.field; line = p.line; sheet = blank_sheet }
+    rejected : Place → Result Sheetˢ Rejection
+    rejected p = Err (record { number = p.number; field = p.field; line = p.line })
 
     here : (a : Answer) → Judged s a r → Answers a (rejected r.place)
     here (Refused x n) k = ap rejected k
     here (Good sheet) k = not-both (good r.place) (behind-good s r.place k.0) e
 
-pub answer-good : (s : List ℕ) (r : Lines) → Judged s (read_of document s) r → good r.place ≡ true
-    → Answers (read_of document s) (record { number = 0; field = 0; line = 0; sheet = r.sheet })
+pub answer-good : (s : List ℕ) (r : Heard Sheetˢ) → Judged s (read_of document s) r → good r.place ≡ true
+    → Answers (read_of document s) (Ok r.said)
 answer-good s r h e = here (read_of document s) h
   where
-    here : (a : Answer) → Judged s a r → Answers a (record { number = 0; field = 0; line = 0; sheet = r.sheet })
+    here : (a : Answer) → Judged s a r → Answers a (Ok r.said)
     here (Refused x n) k = not-both (good r.place) e (ap good k ∙ refused-bad x n)
-    here (Good sheet) k = (refl, refl, refl, k.1, k.2)
+    here (Good sheet) k = (r.said, refl, k.1, k.2)
 
 -- AN ACCEPTED SHEET: its struct shows the firing of a sheet that was read, which keeps every rule
 pub record Firm (s : List ℕ) (x : Sheetˢ) : Type 0 where
@@ -184,18 +184,26 @@ pub record Firm (s : List ℕ) (x : Sheetˢ) : Type 0 where
   pub good : read_of document s ≡ Good sheet
   pub shows : Shows x (firing_of sheet)
 
-pub firm : (s : List ℕ) (r : Outcome) → Answers (read_of document s) r → r.number ≡ 0 → Firm s r.sheet
-firm s r h e = here (read_of document s) refl h
+abbrev is_accepted : Result Sheetˢ Rejection → Bool
+is_accepted (Ok x) = true
+is_accepted (Err e) = false
+
+pub firm : (s : List ℕ) (x : Sheetˢ) → Answers (read_of document s) (Ok x) → Firm s x
+firm s x h = here (read_of document s) refl h
   where
-    here : (a : Answer) → read_of document s ≡ a → Answers a r → Firm s r.sheet
-    here (Refused x n) g k = absurd (omega (arith, e, ap (λ (o : Outcome). o.number) k, (numbered x).some))
-    here (Good sheet) g k = record { sheet = sheet; good = g; shows = k.3 }
+    held : Result Sheetˢ Rejection → Sheetˢ
+    held (Ok y) = y
+    held (Err e) = x
+
+    here : (a : Answer) → read_of document s ≡ a → Answers a (Ok x) → Firm s x
+    here (Refused y n) g k = absurd (clash (sym (ap is_accepted k)))
+    here (Good sheet) g k = record { sheet = sheet; good = g; shows = subst (λ (y : Sheetˢ). Shows y (firing_of sheet)) (sym (ap held k.1)) k.2 }
 
 -- the same by the judgement
-pub firm-judged : (s : List ℕ) (r : Lines) → Judged s (read_of document s) r → good r.place ≡ true → Firm s r.sheet
+pub firm-judged : (s : List ℕ) (r : Heard Sheetˢ) → Judged s (read_of document s) r → good r.place ≡ true → Firm s r.said
 firm-judged s r h e = here (read_of document s) refl h
   where
-    here : (a : Answer) → read_of document s ≡ a → Judged s a r → Firm s r.sheet
+    here : (a : Answer) → read_of document s ≡ a → Judged s a r → Firm s r.said
     here (Refused x n) g k = not-both (good r.place) e (ap good k ∙ refused-bad x n)
     here (Good sheet) g k = record { sheet = sheet; good = g; shows = k.1 }
 
@@ -209,20 +217,24 @@ pub record Denied (s : List ℕ) (n line i : ℕ) : Type 0 where
   pub numbers : n ≡ number why
   pub fields : i ≡ field why
 
-pub denied : (s : List ℕ) (r : Outcome) → Answers (read_of document s) r → ¬ (r.number ≡ 0) → Denied s r.number r.line r.field
-denied s r h e = here (read_of document s) refl h
+pub denied : (s : List ℕ) (e : Rejection) → Answers (read_of document s) (Err e) → Denied s e.number e.line e.field
+denied s e h = here (read_of document s) refl h
   where
-    here : (a : Answer) → read_of document s ≡ a → Answers a r → Denied s r.number r.line r.field
+    held : Result Sheetˢ Rejection → Rejection
+    held (Ok y) = e
+    held (Err f) = f
+
+    here : (a : Answer) → read_of document s ≡ a → Answers a (Err e) → Denied s e.number e.line e.field
     here (Refused x n) g k = record {
       why = x;
-      is = g ∙ ap (Refused x) (sym (ap (λ (o : Outcome). o.line) k));
-      numbers = ap (λ (o : Outcome). o.number) k;
-      fields = ap (λ (o : Outcome). o.field) k;
+      is = g ∙ ap (Refused x) (sym (ap (λ (o : Result Sheetˢ Rejection). (held o).line) k));
+      numbers = ap (λ (o : Result Sheetˢ Rejection). (held o).number) k;
+      fields = ap (λ (o : Result Sheetˢ Rejection). (held o).field) k;
     }
-    here (Good sheet) g k = absurd (e k.0)
+    here (Good sheet) g k = absurd (clash (ap is_accepted k.1))
 
 -- the same by the judgement
-pub denied-judged : (s : List ℕ) (r : Lines) → Judged s (read_of document s) r → good r.place ≡ false
+pub denied-judged : (s : List ℕ) (r : Heard Sheetˢ) → Judged s (read_of document s) r → good r.place ≡ false
     → Denied s r.place.number r.place.line r.place.field
 denied-judged s r h e = here (read_of document s) refl h
   where

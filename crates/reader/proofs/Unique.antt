@@ -1,8 +1,6 @@
 -- No second outcome fits: what a struct shows, and that nothing else stands in it, leave no field open. Assumes nothing.
 use Prim.Native.Nat.{ℕ, zero, suc, ◌+◌, ◌-◌, ◌≤◌}
 use mathlib.Core.Path.{◌≡◌, refl, sym, ap, ap₂, ◌∙◌}
-use mathlib.Core.Bool.{Bool, true, false, cond}
-use mathlib.Core.Option.{Option, none, some}
 use mathlib.Core.List.{List, [], ◌∷◌, ◌++◌, map}
 use native.Mathlib.Omega.{arith}
 use lib.IntN.{ℤ, pos, nat_abs}
@@ -18,15 +16,15 @@ use Rattle.sheet.specs.declared.Section.{Section as Sectionˢ}
 use Rattle.sheet.specs.declared.Sheet.{Sheet as Sheetˢ}
 use Rattle.sheet.specs.Firing.{Stuff, Gas, Analysis, Firing}
 use Rattle.sheet.specs.Shown.{stuff, gas, analysis, stage, setter, part, section, firing, Shows}
-use Rattle.sheet.specs.Blank.{no_analysis}
 use Rattle.sheet.specs.Quantities.{gases}
 use Rattle.document.specs.Reader.{Sheet, Answer, Refused, Good}
 use Rattle.document.specs.Rules.{Every}
 use Rattle.document.specs.Rows.{gas_row, firing_of}
 use Rattle.document.proofs.Cases.{clash}
-use Rattle.lines.specs.declared.Lines.{Lines}
-use Rattle.lines.specs.All.{Settled, Blanked, Trimmed}
-use Rattle.reader.specs.declared.whole.Outcome.{Outcome}
+use Rattle.due.specs.declared.Heard.{Heard}
+use Rattle.lines.specs.All.{Blanked, Trimmed}
+use Rattle.std.specs.Prelude.{Option, None, Some, Result, Ok}
+use Rattle.reader.specs.declared.whole.Rejection.{Rejection}
 use Rattle.reader.specs.Whole.{Judged, Answers}
 
 -- ---- A LIST by what it shows, where no two things of which C holds show the same
@@ -77,38 +75,24 @@ module _ {A B : Type 0} (g : A → B) (one : (x y : A) → g x ≡ g y → x ≡
 stuff-one : (x y : Stuffˢ) → stuff x ≡ stuff y → x ≡ y
 stuff-one x y e = λ i. record { material = record { 0 = ap (λ (z : Stuff). nat_abs z.material) e i }; c = record { 0 = ap (λ (z : Stuff). z.c) e i } }
 
--- of an analysis that was read, and of none, nothing else is open
-said-one : {a b : Analysis} → some a ≡ some b → (a.pair ≡ b.pair) × (a.oxygen ≡ b.oxygen)
-said-one {a} {b} e = let f : a ≡ b = cc in (ap (λ (z : Analysis). z.pair) f, ap (λ (z : Analysis). z.oxygen) f)
-
-analysis-one : (x y : Analysisˢ) → (x.read ≡ false → x ≡ no_analysis) → (y.read ≡ false → y ≡ no_analysis) → analysis x ≡ analysis y → x ≡ y
-analysis-one x y p q e = go x.read y.read refl refl
+analysis-one : (x y : Option Analysisˢ) → analysis x ≡ analysis y → x ≡ y
+analysis-one None None e = refl
+analysis-one None (Some b) e = clash cc
+analysis-one (Some a) None e = clash cc
+analysis-one (Some a) (Some b) e =
+    let same : analysed a ≡ analysed b = cc in
+    λ i. Some (record { pair = record { 0 = ap (λ (z : Analysis). z.pair) same i }; oxygen = record { 0 = ap (λ (z : Analysis). z.oxygen) same i } })
   where
-    of : Analysisˢ → Bool → Option Analysis
-    of z t = cond t (some (record { pair = z.pair.0; oxygen = z.oxygen.0 })) none
+    analysed : Analysisˢ → Analysis
+    analysed z = record { pair = z.pair.0; oxygen = z.oxygen.0 }
 
-    shown : {a b : Bool} → x.read ≡ a → y.read ≡ b → of x a ≡ of y b
-    shown h k = sym (ap (of x) h) ∙ e ∙ ap (of y) k
-
-    go : (a b : Bool) → x.read ≡ a → y.read ≡ b → x ≡ y
-    go false false h k = p h ∙ sym (q k)
-    go true true h k =
-        let both = said-one (shown h k) in
-        λ i. record { read = (h ∙ sym k) i; pair = record { 0 = both.0 i }; oxygen = record { 0 = both.1 i } }
-    go true false h k =
-        let apart = shown h k in
-        clash cc
-    go false true h k =
-        let apart = shown h k in
-        clash cc
-
-stage-one : (x y : Stageˢ) → Settled x → Settled y → stage x ≡ stage y → x ≡ y
-stage-one x y p q e = λ i. record {
+stage-one : (x y : Stageˢ) → stage x ≡ stage y → x ≡ y
+stage-one x y e = λ i. record {
   gas = record { 0 = ap (λ z. z.gas) e i };
   excess = record { 0 = ap (λ z. z.excess) e i };
   flue = record { 0 = ap (λ z. z.flue) e i };
   co = record { 0 = ap (λ z. z.co) e i };
-  analysis = analysis-one x.analysis y.analysis p q (ap (λ z. z.analysis) e) i;
+  analysis = analysis-one x.analysis y.analysis (ap (λ z. z.analysis) e) i;
   minutes = record { 0 = ap (λ z. z.minutes) e i };
 }
 
@@ -193,8 +177,8 @@ module _ (f : Firing) (x y : Sheetˢ) (a : Shows x f) (b : Shows y f) (t : Trimm
       λ i. record {
         head = same_head i;
         stages = record {
-          count = record { 0 = same_count stage Settled stage-one t.stages u.stages t.analyses u.analyses stages i };
-          lines = same_lines stage Settled stage-one t.stages u.stages t.analyses u.analyses stages i;
+          count = record { 0 = any-count stage stage-one t.stages u.stages stages i };
+          lines = any-lines stage stage-one t.stages u.stages stages i;
         };
         setters = record {
           count = record { 0 = any-count setter setter-one t.setters u.setters setters i };
@@ -211,18 +195,13 @@ module _ (f : Firing) (x y : Sheetˢ) (a : Shows x f) (b : Shows y f) (t : Trimm
         readings = (a.readings ∙ sym b.readings) i;
       }
 
--- ---- THE LAWS: no second outcome of `read`, and on acceptance no second judgement
-pub one_outcome : (a : Answer) (r t : Outcome) → Answers a r → Answers a t → r ≡ t
+-- ---- THE LAWS: no second answer of `read`, and on acceptance no second judgement
+pub one_outcome : (a : Answer) (r t : Result Sheetˢ Rejection) → Answers a r → Answers a t → r ≡ t
 one_outcome (Refused x n) r t h k = h ∙ sym k
-one_outcome (Good sheet) r t h k = λ i. record {
-  number = (h.0 ∙ sym k.0) i;
-  field = (h.1 ∙ sym k.1) i;
-  line = (h.2 ∙ sym k.2) i;
-  sheet = one-sheet (firing_of sheet) r.sheet t.sheet h.3 k.3 h.4 k.4 i;
-}
+one_outcome (Good sheet) r t h k = h.1 ∙ (λ i. Ok (one-sheet (firing_of sheet) h.0 k.0 h.2 k.2 h.3 k.3 i)) ∙ sym k.1
 
-pub one-judgement : (s : List ℕ) (sheet : Sheet) (r t : Lines) → Judged s (Good sheet) r → Judged s (Good sheet) t → r ≡ t
+pub one-judgement : (s : List ℕ) (sheet : Sheet) (r t : Heard Sheetˢ) → Judged s (Good sheet) r → Judged s (Good sheet) t → r ≡ t
 one-judgement s sheet r t h k = λ i. record {
   place = (h.0 ∙ sym k.0) i;
-  sheet = one-sheet (firing_of sheet) r.sheet t.sheet h.1 k.1 h.2 k.2 i;
+  said = one-sheet (firing_of sheet) r.said t.said h.1 k.1 h.2 k.2 i;
 }

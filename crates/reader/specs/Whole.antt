@@ -1,5 +1,5 @@
 -- Where the code begins to read, the rules of the whole sheet, and what it answers.
-use Rattle.std.specs.Prelude.{ℕ, ◌≡◌, cond, List, length, ltb, ℤ}
+use Rattle.std.specs.Prelude.{ℕ, ◌≡◌, Result, Ok, Err, cond, List, length, ltb, ℤ}
 use Rattle.sheet.specs.declared.Sheet.{Sheet as Sheetˢ}
 use Rattle.sheet.specs.declared.Refusal.{Refusal}
 use Rattle.sheet.specs.declared.Refusal.TheVariants.{TooLong, Surplus, Missing, GasTotal}
@@ -13,11 +13,10 @@ use Rattle.document.specs.Editions.{document}
 use Rattle.document.specs.Rows.{firing_of}
 use Rattle.walls.specs.Cells.{all_read}
 use Rattle.due.specs.declared.Place.{Place}
-use Rattle.lines.specs.declared.Lines.{Lines}
+use Rattle.due.specs.declared.Heard.{Heard}
 use Rattle.lines.specs.All.{Trimmed}
-use Rattle.reader.specs.declared.whole.Outcome.{Outcome}
+use Rattle.reader.specs.declared.whole.Rejection.{Rejection}
 use Rattle.due.specs.Place.{good, refused_at}
-use Rattle.sheet.specs.Blank.{blank_sheet}
 
 -- before the first line
 abbrev pub top : Place
@@ -51,15 +50,15 @@ verdict_as n p x = cond (good p) (cond (ltb p.at n) (refused_at Surplus p.line) 
 
 -- THE CODE'S JUDGEMENT of a text: document 01's refusal with its line, as a place, or the place behind the last line and the struct of the
 -- firing that the sheet gives, and nothing else. Beside a refusal the struct stays open.
-abbrev pub Judged : List ℕ → Answer → Lines → Type 0
+abbrev pub Judged : List ℕ → Answer → Heard Sheetˢ → Type 0
 Judged s (Refused x n) r = r.place ≡ refused_at x n
-Judged s (Good sheet) r = (r.place ≡ bottom s) × Shows r.sheet (firing_of sheet) × Trimmed r.sheet
+Judged s (Good sheet) r = (r.place ≡ bottom s) × Shows r.said (firing_of sheet) × Trimmed r.said
 
-abbrev pub rejected_as : Refusal → ℕ → Outcome
-rejected_as x n = record { number = number x; field = field x; line = n; sheet = blank_sheet }
+abbrev pub rejected_as : Refusal → ℕ → Rejection
+rejected_as x n = record { number = number x; field = field x; line = n }
 
--- THE CODE'S ANSWER: document 01's refusal by its number and its field, with its line; or no refusal and the struct of the firing that the
--- sheet gives; and nothing else
-abbrev pub Answers : Answer → Outcome → Type 0
-Answers (Refused x n) r = r ≡ rejected_as x n
-Answers (Good sheet) r = (r.number ≡ 0) × (r.field ≡ 0) × (r.line ≡ 0) × Shows r.sheet (firing_of sheet) × Trimmed r.sheet
+-- THE CODE'S ANSWER: document 01's refusal by its number and its field, with its line; or the struct of the firing that the sheet gives; and
+-- nothing else
+abbrev pub Answers : Answer → Result Sheetˢ Rejection → Type 0
+Answers (Refused x n) r = r ≡ Err (rejected_as x n)
+Answers (Good sheet) r = (x : Sheetˢ) × (r ≡ Ok x) × Shows x (firing_of sheet) × Trimmed x

@@ -4,6 +4,7 @@ ghost use Rattle.lines.specs.All.{Sized};
 ghost use Rattle.reader.specs.Whole.{opening_as, verdict_as};
 
 use due::{Place, refused};
+use limits::Measure;
 use quantity::gas::GasTotal;
 use sheet::block::total_gas;
 use sheet::{Refusal, SHEET_MOST, Sheet};
@@ -23,14 +24,12 @@ pub fn opening(n: usize) -> Place
     }
 }
 
-// A firing as its sheet gives it, and then the numbers are 0; or document 01's number of the refusal, the field that it names and its line, 0
-// for the whole sheet, and then the firing is blank.
+// Document 01's number of the refusal, the field that it names and its line, 0 for the whole sheet.
 #[derive(Drop)]
-pub struct Outcome {
+pub struct Rejection {
     pub number: usize,
     pub field: usize,
     pub line: usize,
-    pub sheet: Sheet,
 }
 
 // The place after the rules of the whole sheet: that nothing stands below the last line, the gas of all stages, and then a reading for
