@@ -20,6 +20,7 @@ ghost use Rattle.flue.specs.Steps.{hottest, entry_most, DryFits, RateFits, Burns
 
 use burning::mixture::Burning;
 use formulas::rounding::Quotient;
+use limits::Count;
 use quantity::gas::{CarbonMonoxide, CubicMetres, ExcessAir, Moisture};
 use quantity::heat::Joules;
 use quantity::sheet::StageCount;
@@ -229,10 +230,9 @@ fn flue_capacity(stage: Stage) -> FlueCapacity
     requires { StageIn (stage_of stage) }
     ensures { result.0 ≡ flue_capacity (stage_of stage) }
 {
-    let analysis = stage.analysis;
-    if !analysis.read {
+    let Some(analysis) = stage.analysis else {
         return FlueCapacity(1384);
-    }
+    };
     let co = stage.co.0 as u64;
     let pair = analysis.pair.0 as u64;
     let oxygen = analysis.oxygen.0 as u64;
@@ -255,7 +255,7 @@ fn dry_heat(volume: DryFlue, c: FlueCapacity, stage: Stage, t: Degrees) -> Joule
     ensures { (b : AnyBurning) → Volume b (stage_of stage) volume.0 →
         Figure joule dry_heat_most result.0 (dry_heat paper b c.0 t.0 (stage_of stage)) }
 {
-    let rise = stage.flue.degrees().above(t);
+    let rise = Degrees::from(stage.flue).above(t);
     dry_carried(volume, c, rise).joules()
 }
 
@@ -272,7 +272,7 @@ fn vapour_heat(burning: Burning, moisture: Moisture, stage: Stage, t: Degrees) -
     requires { FlueIn (burningOf burning) moisture.0 (stage_of stage) t.0 }
     ensures { Figure joule vapour_heat_most result.0 (vapour_heat paper (burningOf burning) moisture.0 t.0 (stage_of stage)) }
 {
-    let rise = stage.flue.degrees().above(t);
+    let rise = Degrees::from(stage.flue).above(t);
     vapour_carried(vapour(burning, moisture, stage), rise).joules()
 }
 

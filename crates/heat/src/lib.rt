@@ -10,8 +10,10 @@ ghost use Rattle.heat.specs.Balance.{Kept, Heat, Heated, Balanced};
 use burning::mixture::{burning_of, warmth_of};
 use burning::{q1, q2};
 use flue::flue_heats;
+use limits::Measure;
 use quantity::gas::GasTotal;
 use quantity::heat::Joules;
+use quantity::temperature::Degrees;
 use sheet::Sheet;
 use sheet::block::total_gas;
 use solids::records::{part_heats, q5, setter_heats, x1};
@@ -67,8 +69,8 @@ fn fuel_heat(sheet: Sheet) -> FuelHeat
     let total = GasTotal::checked(total_gas(sheet.stages), 0, 1);
     let gas = total.value;
     let warmth = warmth_of(shares);
-    let at = fuel.temperature.degrees();
-    let t = head.ambient.degrees();
+    let at = Degrees::from(fuel.temperature);
+    let t = Degrees::from(head.ambient);
     FuelHeat {
         q1: q1(gas, fuel.heating),
         q2: q2(gas, warmth, at, t),
@@ -84,7 +86,7 @@ fn heats_of(sheet: Sheet) -> Heats
     let ware = head.ware;
     let shares = head.gas;
     let readings = sheet.readings;
-    let t = head.ambient.degrees();
+    let t = Degrees::from(head.ambient);
     let fuel = fuel_heat(sheet);
     let setters = setter_heats(sheet.setters, t, ware.highest);
     let parts = part_heats(sheet.parts, t);

@@ -14,11 +14,11 @@ pub fn print(room: &[u8], n: usize, out: &mut [u8; 1024]) -> usize
     ensures written { Written 0 (joules_of (take n room.now)) out.old out.new result }
     ensures upper_bound { result ≤ length out.new }
 {
-    let r = reader::read(&room[..n]);
-    if r.number == 0 {
-        let sheet = r.sheet;
-        return report::write_heats(out, heat::balance(sheet));
+    match reader::read(&room[..n]) {
+        Ok(sheet) => report::write_heats(out, heat::balance(sheet)),
+        Err(e) => {
+            let a = refused(e.number, e.line, e.field);
+            refusal_text(out, a)
+        }
     }
-    let a = refused(r.number, r.line, r.field);
-    refusal_text(out, a)
 }

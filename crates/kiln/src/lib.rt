@@ -20,8 +20,9 @@ fn answered(sheet: &[u8], room: &mut [u8]) -> Answer
     // So written for the compiler: docs/DECISIONS.md, "`kiln` calls `judged` and not `read`".
     let l = reader::judged(sheet);
     let p = l.place;
+    // A place says its refusal by a number, 0 for none: docs/DECISIONS.md, "A place is four numbers".
     if p.number == 0 {
-        let firing = l.sheet;
+        let firing = l.said;
         let head = firing.head;
         let heats = heat::balance(firing);
         let figures = report::figures(head.firing, head.product, heats);

@@ -16,6 +16,7 @@ pub fn print(room: &[u8], n: usize, out: &mut [u8; 1024]) -> usize
     ensures upper_bound { result ≤ length out.new }
 {
     let a = answered(&room[..n], out);
+    // `Answer` is the struct that C reads: it says by 0 that nothing is refused, since C has no `Option`.
     if a.refusal == 0 {
         return a.length;
     }

@@ -79,6 +79,7 @@ fn given(c: SpecificHeat) -> Capacity
     Capacity(c.0 as i64 * 1000)
 }
 
+// The fuel's, `brought` of `burning`, has other quantities and other units: one function of numbers would take a kilogram for a cubic metre.
 // The heat of a mass that grows warmer.
 fn stored(mass: Kilos, c: Capacity, rise: Rise) -> Quotient
     requires { ProductFits mass.0 c.0 rise.0 }

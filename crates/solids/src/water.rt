@@ -37,7 +37,7 @@ pub fn x2(water: Water, t: Degrees) -> Joules
     requires { WetIn (water_of water) t.0 }
     ensures { (f : Firing) → f.water ≡ water_of water → f.ambient ≡ t.0 → Figure joule x2_most result.0 (x2 f paper) }
 {
-    steam(water, water.flue.degrees().above(t)).joules()
+    steam(water, Degrees::from(water.flue).above(t)).joules()
 }
 
 // The heat that breaks the clay down.

@@ -16,6 +16,7 @@ ghost use Rattle.formulas.specs.Steps.{over};
 ghost use Rattle.surface.specs.Cells.{FourthFits, DifferenceFits, LostFits, RiseIn, HotIn, ReadingIn, WallIn, LostIn, Rooted, EachRooted, Seen};
 
 use formulas::rounding::Quotient;
+use limits::Count;
 use quantity::heat::Joules;
 use quantity::kiln::{Area, Minutes, SectionPlace};
 use quantity::sheet::{SectionCount, StageCount, WallCount};
@@ -159,7 +160,7 @@ fn flux_at(reading: Reading, section: Section, noted: Noted) -> Flux
         Figure (10 ^ 9) flux_most result.0 (flux paper (section_of section) w) }
 {
     let first = convection(section.place, reading.surface.above(reading.air), noted);
-    let second = radiation(reading.surface.degrees(), reading.air.degrees());
+    let second = radiation(Degrees::from(reading.surface), Degrees::from(reading.air));
     both(first, second)
 }
 

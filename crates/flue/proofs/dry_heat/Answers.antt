@@ -19,7 +19,7 @@ dry_carried-requires c =
     let p = c.requires in
     let rise = c.args.stage.flue.0 -ℤ c.args.t.0 in
     let e = regrouped c.args.volume.0 c.args.c.0 rise in
-    rw (c.above-rise.ensures, c.degrees.ensures)
+    rw (c.above-rise.ensures, c.from.ensures)
     (record { one = p.first; all = rw e (fit (within p.filled.volume ∷ within p.carried ∷ []) (raw 0 ⟨*⟩ raw 1) tt) })
 
 pub returns : goal.returns
@@ -31,4 +31,4 @@ returns c =
     λ b v.
     rounded (within p.filled.volume ∷ within p.carried ∷ []) (raw 0 ⟨*⟩ raw 1) (10 ^ 6) (joule / 10 ^ 6) tt
     (same (sym e) (finer (times (times v.is c.args.c.0) rise) (joule / 10 ^ 11)))
-    (rw (c.joules.ensures, c.dry_carried.ensures, c.above-rise.ensures, c.degrees.ensures, e))
+    (rw (c.joules.ensures, c.dry_carried.ensures, c.above-rise.ensures, c.from.ensures, e))

@@ -13,7 +13,7 @@ pub vapour_carried-requires : goal.vapour_carried-requires
 vapour_carried-requires c =
     let p = c.requires in
     let ks = within c.vapour.ensures.size ∷ limits (flue_in _ p.moist.burns.stage) ∷ limits p.ambient ∷ [] in
-    rw (c.above-rise.ensures, c.degrees.ensures)
+    rw (c.above-rise.ensures, c.from.ensures)
     (record { one = fit ks (raw 0 ⟨*⟩ num (pos 193)) tt; all = fit ks (raw 0 ⟨*⟩ num (pos 193) ⟨*⟩ (raw 1 ⟨-⟩ raw 2)) tt })
 
 pub returns : goal.returns
@@ -24,4 +24,4 @@ returns c =
     rounded (within mass.size ∷ limits (flue_in _ c.requires.moist.burns.stage) ∷ limits c.requires.ambient ∷ [])
     (raw 0 ⟨*⟩ num (pos 193) ⟨*⟩ (raw 1 ⟨-⟩ raw 2)) (10 ^ 6) (joule / 10 ^ 6) tt
     (finer (times (times mass.is (pos 193)) rise) (joule / (56 * 10 ^ 17)))
-    (rw (c.joules.ensures, c.vapour_carried.ensures, c.above-rise.ensures, c.degrees.ensures))
+    (rw (c.joules.ensures, c.vapour_carried.ensures, c.above-rise.ensures, c.from.ensures))

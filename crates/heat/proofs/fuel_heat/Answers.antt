@@ -31,8 +31,8 @@ q2-requires c =
       gas = subst (In gas_total) (sym is) l.total;
       start = w.cold;
       on = w.rise;
-      at = rw c.degrees-at.ensures l.fuel_temperature;
-      from = rw c.degrees-t.ensures l.ambient;
+      at = rw c.from-at.ensures l.fuel_temperature;
+      from = rw c.from-t.ensures l.ambient;
     }
 
 pub returns : goal.returns
@@ -48,8 +48,8 @@ returns c =
       rw (
         field k (λ g. total_gas g.stages) ∙ sym gas,
         field k (λ g. g.gas),
-        field k (λ g. g.fuel.temperature) ∙ sym c.degrees-at.ensures,
-        field k (λ g. g.ambient) ∙ sym c.degrees-t.ensures,
-        ← c.warmth_of-warmth.ensures.heat c.degrees-at.result.0,
+        field k (λ g. g.fuel.temperature) ∙ sym c.from-at.ensures,
+        field k (λ g. g.ambient) ∙ sym c.from-t.ensures,
+        ← c.warmth_of-warmth.ensures.heat c.from-at.result.0,
       ) c.q2.ensures,
     )

@@ -15,13 +15,13 @@ seen k = record { sections = field k (λ g. g.sections); stages = field k (λ g.
 pub setter_heats-setters-requires-clause-loads : goal.setter_heats-setters-requires-clause-loads
 setter_heats-setters-requires-clause-loads c =
     let l = own c.requires.1 in
-    record { each = l.setters; other = rw c.degrees-t.ensures (sized l.ambient tt) }
+    record { each = l.setters; other = rw c.from-t.ensures (sized l.ambient tt) }
 
 pub setter_heats-setters-requires-clause-within : goal.setter_heats-setters-requires-clause-within
 setter_heats-setters-requires-clause-within c = let l = own c.requires.1 in sized l.ware.highest tt
 
 pub part_heats-parts-requires : goal.part_heats-parts-requires
-part_heats-parts-requires c = let l = own c.requires.1 in record { each = l.parts; other = rw c.degrees-t.ensures (sized l.ambient tt) }
+part_heats-parts-requires c = let l = own c.requires.1 in record { each = l.parts; other = rw c.from-t.ensures (sized l.ambient tt) }
 
 pub burning_of-requires : goal.burning_of-requires
 burning_of-requires c = (own c.requires.1).gas
@@ -29,16 +29,16 @@ burning_of-requires c = (own c.requires.1).gas
 pub flue_heats-flue-requires : goal.flue_heats-flue-requires
 flue_heats-flue-requires c =
     let l = own c.requires.1 in
-    record { burning = c.burning_of.ensures.within; stages = l.stages; moisture = l.moisture; ambient = rw c.degrees-t.ensures l.ambient }
+    record { burning = c.burning_of.ensures.within; stages = l.stages; moisture = l.moisture; ambient = rw c.from-t.ensures l.ambient }
 
 pub q5-q5-requires : goal.q5-q5-requires
-q5-q5-requires c = let l = own c.requires.1 in record { ware = l.ware; ambient = rw c.degrees-t.ensures (sized l.ambient tt) }
+q5-q5-requires c = let l = own c.requires.1 in record { ware = l.ware; ambient = rw c.from-t.ensures (sized l.ambient tt) }
 
 pub x1-x1-requires : goal.x1-x1-requires
 x1-x1-requires c = let l = own c.requires.1 in record { product = l.product; ware = l.ware }
 
 pub x2-x2-requires : goal.x2-x2-requires
-x2-x2-requires c = let l = own c.requires.1 in record { water = l.water; ambient = rw c.degrees-t.ensures l.ambient }
+x2-x2-requires c = let l = own c.requires.1 in record { water = l.water; ambient = rw c.from-t.ensures l.ambient }
 
 pub x3-x3-requires : goal.x3-x3-requires
 x3-x3-requires c = (own c.requires.1).clay
@@ -53,7 +53,7 @@ pub returns : goal.returns
 unfolding x7 x8
 returns c =
     λ f k.
-    let t = field k (λ g. g.ambient) ∙ sym c.degrees-t.ensures in
+    let t = field k (λ g. g.ambient) ∙ sym c.from-t.ensures in
     let burnt = field k burning ∙ sym c.burning_of.ensures.is in
     record {
       q1 = (c.fuel_heat-fuel.ensures f k).0;

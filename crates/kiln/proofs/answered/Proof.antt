@@ -38,7 +38,7 @@ abbrev figured : tie.After-reported → tie.After-figures-figures
 figured c = c.before.before.before
 
 -- what was accepted
-abbrev firing : (c : tie.After-head-1) → Firm (bytes (J c)) (J c).judged-l.result.sheet
+abbrev firing : (c : tie.After-head-1) → Firm (bytes (J c)) (J c).judged-l.result.said
 firing c = let j = (J c).judged-l in firm-judged _ j.result j.ensures (is-good j.result.place (accepted c).if-p-eq0.true)
 
 -- what was refused
@@ -57,7 +57,7 @@ balance-requires c κs = (firing_of (firing c).sheet, kept (firing c))
 
 -- its number, product and heats
 found : (c : tie.After-balance-heats) →
-    let head = (J c.before).judged-l.result.sheet.head in
+    let head = (J c.before).judged-l.result.said.head in
     Found (firing_of (firing c.before).sheet) head.firing.0 head.product.0 c.balance-heats.result
 found c =
     let k = kept (firing c.before) in

@@ -23,22 +23,22 @@ convection-requires c κs =
     rw c.above.ensures
     (record { place = omega (arithℤ, p.section.place.high); low = sub_nonneg p.reading.warmer; high = at_most ks (raw 0 ⟨-⟩ raw 1) tt })
 
-degrees-requires : tie.Need-degrees-requires
+degrees-requires : tie.Need-from-requires
 degrees-requires c κs = search rules
 
-degrees-requires-2 : tie.Need-degrees-requires-2
+degrees-requires-2 : tie.Need-from-requires-2
 degrees-requires-2 c κs = search rules
 
 radiation-requires : tie.Need-radiation-second-requires
 radiation-requires c κs =
     let p = c.requires.reading in
-    rw (c.degrees.ensures, c.degrees-2.ensures) (record { surface = p.surface; air = p.air })
+    rw (c.from.ensures, c.from-2.ensures) (record { surface = p.surface; air = p.air })
 
 both-requires : tie.Need-both-requires
 both-requires c κs =
     let first = c.before.before.before in
     let r = first.args.reading in
-    let second = c.radiation-second.ensures (wall_of r) (sym c.degrees.ensures) (sym c.degrees-2.ensures) in
+    let second = c.radiation-second.ensures (wall_of r) (sym c.from.ensures) (sym c.from-2.ensures) in
     fit (within first.convection-first.ensures.size ∷ within second.size ∷ []) (raw 0 ⟨+⟩ raw 1) tt
 
 returns : tie.Need-returns
@@ -48,7 +48,7 @@ returns c =
     let first = warm.convection-first.ensures in
     let rise = warm.above.ensures in
     λ w e₁ e₂.
-    let second = c.radiation-second.ensures w (e₁ ∙ sym c.degrees.ensures) (e₂ ∙ sym c.degrees-2.ensures) in
+    let second = c.radiation-second.ensures w (e₁ ∙ sym c.from.ensures) (e₂ ∙ sym c.from-2.ensures) in
     let is = rw (rise, ← e₁, ← e₂) at first.is in
     rw c.both.ensures
     (record { is = plus (same is units) second.is; size = most (within first.size ∷ within second.size ∷ []) (raw 0 ⟨+⟩ raw 1) tt })

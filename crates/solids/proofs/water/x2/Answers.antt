@@ -19,13 +19,13 @@ returns c =
     let ks = limits p.water.adsorbed ∷ limits p.water.crystal ∷ limits p.water.flue ∷ limits p.ambient ∷ [] in
     λ f e₁ e₂.
     rw (e₁, e₂) (rounded ks ((raw 0 ⟨+⟩ raw 1) ⟨*⟩ bracket) 10 (joule / 10) tt units
-    (rw (c.joules.ensures, c.steam.ensures, c.above.ensures, c.degrees.ensures)))
+    (rw (c.joules.ensures, c.steam.ensures, c.above.ensures, c.from.ensures)))
 
 pub steam-requires : goal.steam-requires
 steam-requires c =
     let p = c.requires in
     let ks = limits p.water.adsorbed ∷ limits p.water.crystal ∷ limits p.water.flue ∷ limits p.ambient ∷ [] in
-    rw (c.above.ensures, c.degrees.ensures)
+    rw (c.above.ensures, c.from.ensures)
     (record {
       both = fit ks (raw 0 ⟨+⟩ raw 1) tt;
       on = fit ks (num (pos 193) ⟨*⟩ (raw 2 ⟨-⟩ raw 3)) tt;
