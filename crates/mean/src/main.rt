@@ -16,6 +16,7 @@ const WORDS: Words = Words {
     unwritten: b"mean: the answer could not be written\n",
 };
 
+// What the three programs do alike is `streams::run`; here stand the words, the room and the answer of this one.
 fn main(rt: HostRuntime) {
     streams::run(rt, &WORDS, &mut [0; ROOM], |room, n| {
         let mut text = [0; 64];

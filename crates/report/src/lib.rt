@@ -9,6 +9,7 @@ pub use joules::figures;
 pub use writing::{fits, write, write_heats};
 
 // Where in a report the firing's number stands, and behind it the heats in their order.
+// Places and no kinds: the order of a report's lines is the definition's (formulas, specs/Report `keys`).
 const FIRING: usize = 0;
 
 const FIRST_HEAT: usize = 1;
