@@ -1,9 +1,11 @@
 -- What stands where nothing was read fits the line that it would have: so every quantity of a sheet's struct lies within its limits, read or
 -- not. Assumes nothing.
 use mathlib.Core.Path.{◌≡◌, refl}
-use mathlib.Core.Bool.{true, ◌&&◌}
+use mathlib.Core.Bool.{Bool, true, ◌&&◌}
 use mathlib.Core.List.{[], ◌∷◌}
 use lib.IntN.{ℤ, pos}
+use Rattle.std.specs.Prelude.{Option, None, Some}
+use Rattle.sheet.specs.declared.Reading.{Reading}
 use Rattle.sheet.specs.Blank.{blank_head, blank_stage, blank_setter, blank_part, blank_section, blank_sheet}
 use Rattle.sheet.specs.Shown.{fuel, gas, ware, water, stage, setter, part, section, unread}
 use Rattle.sheet.specs.Quantities.{stages_least, stages_most, setters_most, parts_most, sections_least, sections_most, surface, near_air, to}
@@ -34,12 +36,16 @@ pub lines_fit : fits sheet_line (single (pos blank_head.edition.0))
 unfolding fits in_ranges
 lines_fit = refl
 
+-- the two temperatures of a cell, where they were read
+abbrev cell_fits : Option Reading → Bool
+cell_fits None = true
+cell_fits (Some x) = within surface x.surface.0 && within near_air x.air.0
+
 -- the counts of its blocks, and the two temperatures of a cell
 pub counts-fit : within (to stages_least stages_most) (pos blank_sheet.stages.count.0)
     && within (to 0 setters_most) (pos blank_sheet.setters.count.0)
     && within (to 0 parts_most) (pos blank_sheet.parts.count.0)
     && within (to sections_least sections_most) (pos blank_sheet.sections.count.0)
-    && within surface unread.surface.0
-    && within near_air unread.air.0
+    && cell_fits unread
     ≡ true
 counts-fit = refl

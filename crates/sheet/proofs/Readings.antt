@@ -7,6 +7,7 @@ use native.Mathlib.Decide.{dec_le}
 use native.Mathlib.Omega.{arith}
 use lib.ListN.{length, get_or, set, replicate, length-set, length-replicate, get_or-replicate}
 use lib.Seq.{get_or-set_same, get_or-set_other}
+use Rattle.std.specs.Prelude.{Option}
 use Rattle.sheet.specs.declared.Reading.{Reading}
 use Rattle.sheet.specs.declared.SectionReadings.{SectionReadings}
 use Rattle.sheet.specs.Quantities.{stages_most, sections_most}
@@ -29,7 +30,7 @@ pub record Whole (cells : List SectionReadings) : Type 0 where
   pub sections : length cells ≡ sections_most
   pub stages : (i : ℕ) → i < sections_most → length (get_or cells i no_readings).stages ≡ stages_most
 
-module _ (cells : List SectionReadings) (i j : ℕ) (x : Reading) (whole : Whole cells) where
+module _ (cells : List SectionReadings) (i j : ℕ) (x : Option Reading) (whole : Whole cells) where
   -- the section's readings with this one
   abbrev changed : SectionReadings
   changed = record { stages = set (get_or cells i no_readings).stages j x }

@@ -1,5 +1,5 @@
 -- What the code's structs show: the firing whose lines their arrays begin with, and whose readings stand by section and stage.
-use Rattle.std.specs.Prelude.{Option as Optionˢ, None, Some, ℕ, suc, ◌-◌, ◌≡◌, Bool, cond, ◌&&◌, List, [], ◌∷◌, map, get_or, take, set, replicate, eqb, ℤ, pos, nat_abs}
+use Rattle.std.specs.Prelude.{is_some, Option as Optionˢ, None, Some, ℕ, suc, ◌-◌, ◌≡◌, Bool, cond, ◌&&◌, List, [], ◌∷◌, map, get_or, take, set, replicate, ℤ, pos, nat_abs}
 use Rattle.std.proofs.Math.Option.{Option, none, some}
 use Rattle.std.specs.Int.Signed.{le_z}
 use Rattle.quantity.specs.declared.gas.Share.{Share}
@@ -101,14 +101,17 @@ before n (x ∷ l) = cond (same n x.number) 0 (suc (before n l))
 abbrev pub column : Wall → ℕ
 column w = nat_abs w.stage - 1
 
-abbrev pub reading : Wall → Readingˢ
-reading w = record { read = 1; surface = record { 0 = w.surface }; air = record { 0 = w.air } }
+abbrev pub measured : Wall → Readingˢ
+measured w = record { surface = record { 0 = w.surface }; air = record { 0 = w.air } }
 
-abbrev pub unread : Readingˢ
-unread = record { read = 0; surface = record { 0 = pos 0 }; air = record { 0 = pos 0 } }
+abbrev pub reading : Wall → Optionˢ Readingˢ
+reading w = Some (measured w)
 
-abbrev pub was_read : Readingˢ → Bool
-was_read x = eqb x.read 1
+abbrev pub unread : Optionˢ Readingˢ
+unread = None
+
+abbrev pub was_read : Optionˢ Readingˢ → Bool
+was_read x = is_some x
 
 abbrev pub unread_section : SectionReadingsˢ
 unread_section = record { stages = replicate stages_most unread }
@@ -121,11 +124,11 @@ abbrev pub no_readings : SectionReadingsˢ
 no_readings = record { stages = [] }
 
 -- the cell of the i-th section in the j-th stage, both from 0
-abbrev pub cell : List SectionReadingsˢ → ℕ → ℕ → Readingˢ
+abbrev pub cell : List SectionReadingsˢ → ℕ → ℕ → Optionˢ Readingˢ
 cell cells i j = get_or (get_or cells i no_readings).stages j unread
 
 -- a reading laid into it
-abbrev pub lay : List SectionReadingsˢ → ℕ → ℕ → Readingˢ → List SectionReadingsˢ
+abbrev pub lay : List SectionReadingsˢ → ℕ → ℕ → Optionˢ Readingˢ → List SectionReadingsˢ
 lay cells i j x = set cells i (record { stages = set (get_or cells i no_readings).stages j x })
 
 -- the walls laid into the cells of their sections and stages, one after the other

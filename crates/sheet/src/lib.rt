@@ -116,19 +116,17 @@ pub struct Section {
     pub area: Area,
 }
 
-// What was measured at a section in a stage, if it was: `read` is 1 then, and else 0.
+// What was measured at a section in a stage.
 #[derive(Clone, Copy)]
 pub struct Reading {
-    // A number for the compiler: docs/DECISIONS.md, "A quantity is kept in 32 bits and counted with in 64".
-    pub read: u16,
     pub surface: SurfaceTemperature,
     pub air: NearAir,
 }
 
-// What was measured at a section, stage by stage.
+// What was measured at a section, stage by stage, if it was.
 #[derive(Clone, Copy)]
 pub struct SectionReadings {
-    pub stages: [Reading; StageCount::GREATEST],
+    pub stages: [Option<Reading>; StageCount::GREATEST],
 }
 
 // The lines above the stages.

@@ -13,6 +13,7 @@ use lib.ListN.{length, get_or}
 use lib.Signed.{le_z, le_z_yes, ◌≤ℤ◌, ≤ℤ_refl}
 use Rattle.arith.proofs.Ring.{v, #, ◌⊕◌, ring}
 use Rattle.arith.proofs.Order.{arithℤ, ≤ℤ-antisym, le_z_true, ≤ℤ-trans, abs-pos, abs≤⁺}
+use Rattle.std.specs.Prelude.{Option}
 use Rattle.sheet.specs.declared.Reading.{Reading}
 use Rattle.sheet.specs.declared.SectionReadings.{SectionReadings}
 use Rattle.sheet.specs.Firing.{Stage, Section, Wall, Firing}
@@ -26,7 +27,7 @@ use Rattle.formulas.specs.Rounding.{paper}
 use Rattle.formulas.specs.Formulas.{no_section, no_stage, numbered, section_of, stage_of, convection, radiation, flux, wall_heat, x9}
 use Rattle.surface.specs.Cells.{ReadingIn}
 use Rattle.document.proofs.Lists.{some_imp, every-at}
-use Rattle.surface.proofs.Terms.{wall_of}
+use Rattle.surface.proofs.Terms.{read_of, wall_of}
 use Rattle.surface.proofs.Grid.{grid, grid-none, grid-one}
 
 -- ---- a section by its number
@@ -34,7 +35,7 @@ holds : (t : Bool) → T t → t ≡ true
 holds true h = refl
 holds false h = absurd h
 
-true_not_false : ◌≡◌ {A = Bool} true false → ⊥
+pub true_not_false : ◌≡◌ {A = Bool} true false → ⊥
 true_not_false e = subst T e tt
 
 module _ (n : ℤ) where
@@ -73,8 +74,8 @@ natural {z = pos n} h = omega arithℤ
 natural {z = negsuc n} h = absurd h.le
 
 -- the heat of a cell: none where nothing was read
-abbrev cell_heat : Reading → Section → Stage → ℤ
-cell_heat x s t = cond (was_read x) (wall_heat paper s t (wall_of x)) (pos 0)
+abbrev cell_heat : Option Reading → Section → Stage → ℤ
+cell_heat x s t = cond (was_read x) (wall_heat paper s t (wall_of (read_of x))) (pos 0)
 
 module _ (f : Firing) where
   abbrev pub heat_at : List SectionReadings → ℕ → ℕ → ℤ
@@ -84,8 +85,8 @@ module _ (f : Firing) where
   total cells = grid (heat_at cells) sections_most stages_most
 
   -- where a reading lies
-  pub record Lies (i j : ℕ) (x : Reading) : Type 0 where
-    pub reading : ReadingIn x
+  pub record Lies (i j : ℕ) (x : Option Reading) : Type 0 where
+    pub reading : ReadingIn (read_of x)
     pub section : i < length f.sections
     pub stage : j < length f.stages
 
@@ -164,7 +165,7 @@ module _ (f : Firing) (few : length f.sections ≤ sections_most) where
   laid-total (w ∷ ws) cells whole p a fresh =
       let q = p.0 in
       let more = with_wall cells w in
-      let heat : ℕ → ℕ → Reading → ℤ = λ i j x. cell_heat x (get_or f.sections i no_section) (get_or f.stages j no_stage) in
+      let heat : ℕ → ℕ → Option Reading → ℤ = λ i j x. cell_heat x (get_or f.sections i no_section) (get_or f.stages j no_stage) in
       let none : heat_at f cells (row w) (column w) ≡ pos 0 = ap (heat (row w) (column w)) fresh.0 in
       let mine = ap (heat (row w) (column w)) (after-here q cells whole) ∙ own q in
       let others : (i j : ℕ) → (i ≡ row w → j ≢ column w) → heat_at f more i j ≡ heat_at f cells i j =
@@ -278,7 +279,7 @@ module _ (f : Firing) (rules : Lawful f) where
   pub cells-total : total f (cells_of f) ≡ x9 f paper
   unfolding x9
   cells-total =
-      let heat : ℕ → ℕ → Reading → ℤ = λ i j x. cell_heat x (get_or f.sections i no_section) (get_or f.stages j no_stage) in
+      let heat : ℕ → ℕ → Option Reading → ℤ = λ i j x. cell_heat x (get_or f.sections i no_section) (get_or f.stages j no_stage) in
       let none : total f unread_sections ≡ pos 0 = grid-none (heat_at f unread_sections) sections_most stages_most (λ i j. ap (heat i j) (unread-cell i j)) in
       let walls = sum (λ w. wall_heat paper (section_of f w) (stage_of f w) w) f.walls in
       laid-total f rules.sections_most f.walls unread_sections unread-whole rules.walls rules.once (fresh f.walls)

@@ -21,7 +21,7 @@ use Rattle.document.proofs.Lists.{every-at}
 use Rattle.formulas.specs.Rounding.{paper}
 use Rattle.formulas.specs.Formulas.{no_section, no_stage, wall_heat, x9}
 use Rattle.surface.specs.Cells.{LostIn, Seen}
-use Rattle.surface.proofs.Terms.{wall_of}
+use Rattle.surface.proofs.Terms.{read_of, wall_of}
 use Rattle.surface.proofs.Grid.{grid, in_grid}
 use Rattle.surface.proofs.Cells.{heat_at, cell_lies, cell-read, cell-none, cells-total}
 
@@ -45,7 +45,7 @@ shown-length g (suc n) (a ∷ l) = omega (arith, shown-length g n l)
 -- the heat of a section in a stage, as the code forms it
 abbrev pub coded : List SectionReadings → List Sectionˢ → List Stageˢ → ℕ → ℕ → ℤ
 coded readings places times i j =
-    wall_heat paper (section (get_or places i section_beyond)) (stage (get_or times j stage_beyond)) (wall_of (cell readings i j))
+    wall_heat paper (section (get_or places i section_beyond)) (stage (get_or times j stage_beyond)) (wall_of (read_of (cell readings i j)))
 
 module _ {readings : List SectionReadings} {x : Sections} {y : Stages} {f : Firing} (seen : Seen readings x y f)
     (long : length x.lines ≡ sections_most) (wide : length y.lines ≡ stages_most) where
@@ -62,7 +62,7 @@ module _ {readings : List SectionReadings} {x : Sections} {y : Stages} {f : Firi
     there : j < length f.stages
     there = omega (arith, columns)
 
-    read : was_read (cell readings i j) ≡ true
+    pub read : was_read (cell readings i j) ≡ true
     read = rw seen.laid (cell-read f seen.rules i j here there)
 
     section-at : get_or f.sections i no_section ≡ section (get_or x.lines i section_beyond)
@@ -72,7 +72,7 @@ module _ {readings : List SectionReadings} {x : Sections} {y : Stages} {f : Firi
     stage_at = rw seen.stages (shown-at stage y.lines y.count.0 j stage_beyond no_stage (rw seen.stages at there))
 
     -- what is asked of a cell
-    pub cell_in : LostIn (cell readings i j) (section (get_or x.lines i section_beyond)) (stage (get_or y.lines j stage_beyond))
+    pub cell_in : LostIn (read_of (cell readings i j)) (section (get_or x.lines i section_beyond)) (stage (get_or y.lines j stage_beyond))
     cell_in =
         let lies = rw (sym seen.laid) at (cell_lies f seen.rules i j (cell-read f seen.rules i j here there)) in
         let section = every-at SectionIn f.sections i no_section seen.rules.sections here in

@@ -7,10 +7,16 @@ use lib.IntN.{pos}
 use Rattle.roots.specs.Root.{root}
 use Rattle.arith.proofs.NearestLaws.{atmost_ℕ}
 use Rattle.roots.proofs.RootLaws.{root_is, root-most}
+use Rattle.std.specs.Prelude.{Option, None, Some}
 use Rattle.sheet.specs.declared.Reading.{Reading}
 use Rattle.sheet.specs.Firing.{Wall}
 use Rattle.formulas.specs.Rounding.{square_root, fourth_root, convected}
 use Rattle.formulas.specs.Sizes.{placed_most, warmer_most, square_root_most, fourth_root_most, convection_most}
+
+-- a cell's reading, 0 where nothing was read
+abbrev pub read_of : Option Reading → Reading
+read_of None = record { surface = record { 0 = pos 0 }; air = record { 0 = pos 0 } }
+read_of (Some x) = x
 
 -- where and when is known by the cell
 abbrev pub wall_of : Reading → Wall

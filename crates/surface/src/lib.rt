@@ -1,7 +1,8 @@
 // The heat that leaves through the surface, reading by reading.
 #![tactic(auto)]
 
-ghost use Rattle.std.specs.Prelude.{◌≡◌, ℕ, ◌*◌, ◌^◌, ◌≤◌, ◌<◌, ℤ, pos, nat_abs, ◌+ℤ◌, ◌-ℤ◌, ◌*ℤ◌, get_or};
+ghost use Rattle.sheet.specs.declared.Reading.{Reading as ReadingOf};
+ghost use Rattle.std.specs.Prelude.{Some, ◌≡◌, ℕ, ◌*◌, ◌^◌, ◌≤◌, ◌<◌, ℤ, pos, nat_abs, ◌+ℤ◌, ◌-ℤ◌, ◌*ℤ◌, get_or};
 ghost use Rattle.std.specs.Int.{w64};
 ghost use Rattle.std.proofs.Common.{SFits};
 ghost use Rattle.roots.specs.Steps.{side};
@@ -203,13 +204,20 @@ fn gathered(
     rows: usize,
     columns: usize,
 ) -> [[u64; SIDE]; GROUPS]
-    requires { (rows ≤ sections_most) × (columns ≤ stages_most) × ((i j : ℕ) → i < rows → j < columns → ReadingIn (cell readings i j)) }
+    requires { (rows ≤ sections_most) × (columns ≤ stages_most) × ((i j : ℕ) → i < rows → j < columns →
+        (x : ReadingOf) → cell readings i j ≡ Some x → ReadingIn x) }
 {
     let mut rises = [[0; SIDE]; GROUPS];
-    for (i, row) in readings[..rows].iter().enumerate() {
-        for (j, reading) in row.stages[..columns].iter().enumerate() {
-            let at = turn(i, j, columns);
-            rises[at / SIDE][at % SIDE] = arith::magnitude(reading.surface.above(reading.air).0);
+    // By index, as in `x9`: that a cell is one of the first says what is known of it.
+    for i in 0..rows {
+        let row = readings[i];
+        for j in 0..columns {
+            if let Some(reading) = row.stages[j] {
+                let at = turn(i, j, columns);
+                rises[at / SIDE][at % SIDE] = arith::magnitude(
+                    reading.surface.above(reading.air).0,
+                );
+            }
         }
     }
     rises
@@ -247,9 +255,10 @@ pub fn x9(
     for i in 0..rows {
         let row = readings[i];
         for j in 0..columns {
-            let reading = row.stages[j];
-            let own = noted[turn(i, j, columns)];
-            sum = sum.plus(wall_heat(reading, places[i], times[j], own));
+            if let Some(reading) = row.stages[j] {
+                let own = noted[turn(i, j, columns)];
+                sum = sum.plus(wall_heat(reading, places[i], times[j], own));
+            }
         }
     }
     sum

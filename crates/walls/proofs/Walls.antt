@@ -7,6 +7,7 @@ use mathlib.Core.Option.{Option}
 use native.Mathlib.Numerals.{add-one}
 use lib.ListN.{length, get_or, set, length-map, get_or-map}
 use lib.Signed.{lt_z}
+use Rattle.std.specs.Prelude.{Option as Cell}
 use Rattle.sheet.specs.declared.Reading.{Reading}
 use Rattle.sheet.specs.declared.SectionReadings.{SectionReadings}
 use Rattle.sheet.specs.declared.Refusal.{Refusal}
@@ -44,19 +45,19 @@ abbrev seen_in : Heard NamedWall → List SectionReadings → Bool
 seen_in r cells = read_at cells r.said.row (column (wall r.said.wall))
 
 -- the place after rules 7 and 9, by what lies in the line's cell
-abbrev settled_by : ℕ → Heard NamedWall → Reading → Place
+abbrev settled_by : ℕ → Heard NamedWall → Cell Reading → Place
 settled_by n r there = ruled n (ruled n r.place (was_read there) ReadTwice) (lt_z r.said.wall.surface.0 r.said.wall.air.0) Colder
 
 abbrev pub settled : ℕ → Heard NamedWall → List SectionReadings → Place
 settled n r cells = settled_by n r (cell cells r.said.row (column (wall r.said.wall)))
 
 -- CELLS IN ROWS: the code lays the readings into rows of cells, which become the sections' readings at the end.
-module _ (rows : List (List Reading)) where
+module _ (rows : List (List (Cell Reading))) where
   row_at : (i : ℕ) → get_or (by_section rows) i no_readings ≡ record { stages = get_or rows i [] }
   row_at i = get_or-map (λ row. record { stages = row }) rows i []
 
   -- A reading laid into a row's cell is laid into its section's.
-  pub lay-row : (i j : ℕ) (x : Reading) → by_section (set rows i (set (get_or rows i []) j x)) ≡ lay (by_section rows) i j x
+  pub lay-row : (i j : ℕ) (x : Cell Reading) → by_section (set rows i (set (get_or rows i []) j x)) ≡ lay (by_section rows) i j x
   lay-row i j x =
       sym (set-map (λ row. record { stages = row }) rows i (set (get_or rows i []) j x))
       ∙ ap (λ (row : SectionReadings). set (by_section rows) i (record { stages = set row.stages j x })) (sym (row_at i))

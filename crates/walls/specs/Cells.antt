@@ -1,5 +1,5 @@
 -- The cells of the readings, by section and stage: which of them are read, and whether all are.
-use Rattle.std.specs.Prelude.{ℕ, ◌<◌, zero, suc, Bool, true, ◌&&◌, List, map, length, get_or}
+use Rattle.std.specs.Prelude.{ℕ, ◌<◌, zero, suc, Bool, true, ◌&&◌, List, map, length, get_or, Option}
 use Rattle.sheet.specs.declared.Reading.{Reading}
 use Rattle.sheet.specs.declared.SectionReadings.{SectionReadings}
 use Rattle.sheet.specs.Firing.{Section, Wall}
@@ -30,5 +30,5 @@ unfoldable pub all_read : List SectionReadings → ℕ → ℕ → Bool
 all_read cells sections stages = every (λ i. row_read (get_or cells i no_readings) stages) sections
 
 -- the readings of each section, from its row of cells
-abbrev pub by_section : List (List Reading) → List SectionReadings
+abbrev pub by_section : List (List (Option Reading)) → List SectionReadings
 by_section cells = map (λ row. record { stages = row }) cells

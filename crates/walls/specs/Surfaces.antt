@@ -6,7 +6,7 @@ use Rattle.sheet.specs.Quantities.{sections_most}
 use Rattle.document.specs.Reader.{Sheet, read_paragraph, read_paragraphs}
 use Rattle.document.specs.Rows.{stages_in, sections_in}
 use Rattle.document.specs.Entries.{paragraphs_of}
-use Rattle.document.specs.Document01.{section_line, wall_line, sections, walls, surfaces}
+use Rattle.document.specs.Document01.{section_line, wall_line, walls, surfaces}
 use Rattle.due.specs.declared.Place.{Place}
 use Rattle.due.specs.Place.{good, Fair, After}
 use Rattle.sheet.specs.declared.SectionReadings.{SectionReadings}

@@ -1,7 +1,7 @@
 // One line `wall`.
 ghost use Rattle.std.specs.Prelude.{◌≡◌};
 ghost use Rattle.std.specs.Int.Signed.{lt_z};
-ghost use Rattle.sheet.specs.Shown.{reading};
+ghost use Rattle.sheet.specs.Shown.{measured};
 ghost use Rattle.document.specs.Schema.{plain};
 ghost use Rattle.document.specs.Document01.{wall_line};
 ghost use Rattle.document.specs.Rows.{wall_of};
@@ -60,10 +60,9 @@ pub fn colder(surface: SurfaceTemperature, air: NearAir) -> bool
 
 // What a wall line says of its cell.
 pub fn reading_of(w: Wall) -> Reading
-    ensures { result ≡ reading (wall w) }
+    ensures { result ≡ measured (wall w) }
 {
     Reading {
-        read: 1,
         surface: w.surface,
         air: w.air,
     }

@@ -13,8 +13,7 @@ fn row_read(readings: SectionReadings, stages: usize) -> bool
     ensures { result ≡ row_read readings stages }
 {
     for stage in 0..stages {
-        let there = readings.stages[stage];
-        if there.read != 1 {
+        if readings.stages[stage].is_none() {
             return false;
         }
     }

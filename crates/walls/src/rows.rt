@@ -62,10 +62,10 @@ fn named_wall(
 }
 
 // Rules 7 and 9 on a wall line, by what lies in its cell.
-fn read_once(line: usize, q: Place, there: Reading, w: Wall) -> Place
+fn read_once(line: usize, q: Place, there: Option<Reading>, w: Wall) -> Place
     ensures { result ≡ ruledPlace line (ruledPlace line q (was_read there) ReadTwice) (lt_z w.surface.0 w.air.0) Colder }
 {
-    let read = there.read == 1;
+    let read = there.is_some();
     let cold = colder(w.surface, w.air);
     let first = ruled(line, q, read, Refusal::ReadTwice);
     ruled(line, first, cold, Refusal::Colder)
@@ -73,7 +73,7 @@ fn read_once(line: usize, q: Place, there: Reading, w: Wall) -> Place
 
 // The readings of each section, from its row of cells.
 fn by_section(
-    cells: [[Reading; StageCount::GREATEST]; SectionCount::GREATEST],
+    cells: [[Option<Reading>; StageCount::GREATEST]; SectionCount::GREATEST],
 ) -> [SectionReadings; SectionCount::GREATEST]
     ensures { result ≡ by_section cells }
 {
@@ -113,8 +113,7 @@ fn wall_rows(
         let there = cells[row][column];
         place = read_once(place.line, heard.place, there, wall);
         if place.number == 0 {
-            let x = reading_of(wall);
-            cells[row][column] = x;
+            cells[row][column] = Some(reading_of(wall));
         }
     }
     let said = by_section(cells);

@@ -1,7 +1,6 @@
 -- The sections, then the walls: what these ask of the lines above them is said by those and by the sections. Assumes nothing.
 use mathlib.Core.Path.{refl, sym, ap, ◌∙◌}
 use mathlib.Core.List.{List, [], ◌∷◌, ◌++◌, map}
-use borrow.Author.Rules.{rules}
 use Rattle.text.specs.Bytes.{bytes}
 use Rattle.document.specs.Schema.{Row}
 use Rattle.document.specs.Reader.{filled}

@@ -3,7 +3,6 @@ use mathlib.Core.Path.{◌≡◌, ap}
 use mathlib.Core.List.{List}
 use lib.IntN.{pos}
 use lib.ListN.{get_or}
-use borrow.Author.Rules.{rules}
 use Rattle.limits.specs.declared.Number.{Number}
 use Rattle.limits.proofs.Laws.{CountBetween, count-within}
 use Rattle.sheet.specs.Firing.{Wall}

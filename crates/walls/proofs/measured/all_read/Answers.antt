@@ -1,9 +1,6 @@
 -- One section more is read, or the first that is not says so of all. Assumes nothing.
-use borrow.Author.Rules.{rules}
-use Prim.Native.Nat.{◌-◌, ◌≤◌}
 use native.Mathlib.Omega.{arith}
 use mathlib.Core.Path.{◌≡◌, refl, sym, ◌∙◌}
-use mathlib.Core.Bool.{true}
 use Rattle.walls.specs.Cells.{every, all_read}
 use Rattle.walls.proofs.Every.{every_more, every-not}
 use Rattle.walls.proofs.measured.all_read.Goals as goal

@@ -1,12 +1,8 @@
 -- The readings of one section more stand in the array. Assumes nothing.
-use borrow.Author.Rules.{rules}
-use Prim.Native.Nat.{◌-◌, ◌≤◌}
 use native.Mathlib.Omega.{arith}
-use mathlib.Core.Path.{◌≡◌, refl}
-use lib.ListN.{length, take, length-set}
-use Rattle.sheet.specs.Quantities.{sections_most}
+use mathlib.Core.Path.{refl}
+use lib.ListN.{length-set}
 use Rattle.sections.proofs.Mapped.{one_more, all-filled}
-use Rattle.walls.specs.Cells.{by_section}
 use Rattle.walls.proofs.rows.by_section.Goals as goal
 
 pub loop-i-init : goal.loop-i-init

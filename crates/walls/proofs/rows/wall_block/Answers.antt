@@ -1,6 +1,5 @@
 -- The count line, then so many lines. Assumes nothing.
 use Rattle.std.proofs.Common.{refl}
-use borrow.Author.Rules.{rules}
 use Rattle.text.specs.Bytes.{bytes}
 use Rattle.sheet.specs.Quantities.{walls_most}
 use Rattle.document.specs.Tests.{wall-rule}

@@ -1,26 +1,24 @@
 -- One wall more is laid into its cell, or its place is refused. Assumes nothing.
-use Prim.Native.Nat.{ℕ, ◌-◌, ◌≤◌, ◌<◌}
+use Prim.Native.Nat.{ℕ, ◌≤◌}
 use mathlib.Core.Path.{◌≡◌, refl, ap, ◌∙◌}
 use mathlib.Core.Bool.{true}
 use mathlib.Core.List.{List, [], map}
-use mathlib.Core.Logic.{⊎_elim}
 use native.Mathlib.Omega.{arith}
-use borrow.Author.Rules.{rules}
 use lib.ListN.{length, take}
+use Rattle.std.specs.Prelude.{Some}
 use Rattle.sheet.specs.declared.Reading.{Reading}
 use Rattle.sheet.specs.declared.Section.{Section as Sectionˢ}
 use Rattle.sheet.specs.Firing.{Section}
 use Rattle.sheet.specs.Shown.{section, column, lay, laid, unread_sections}
-use Rattle.sheet.specs.Quantities.{sections_most, stages_most}
+use Rattle.sheet.specs.Quantities.{sections_most}
 use Rattle.document.specs.Tests.{wall-rule}
 use Rattle.document.specs.Document01.{wall_line}
-use Rattle.due.specs.Place.{good, Ready}
+use Rattle.due.specs.Place.{good}
 use Rattle.due.proofs.Places.{not-both, is-bad}
 use Rattle.due.proofs.Sequence.{block_start}
-use Rattle.sections.specs.Sections.{numbers}
 use Rattle.sections.proofs.Sections.{numbers-length, shown-length}
 use Rattle.walls.specs.Cells.{by_section}
-use Rattle.walls.specs.Walls.{wall, WallsShown, WallsAfter}
+use Rattle.walls.specs.Walls.{wall, WallsShown}
 use Rattle.walls.proofs.Walls.{settled, settled-fair, settled-row, stored, lay-row, next}
 use Rattle.walls.proofs.rows.wall_rows.Goals as goal
 use Rattle.walls.proofs.rows.wall_rows.Goals.{then-place-eq0, else-place-eq0}
@@ -53,7 +51,7 @@ loop-preserved c =
     let laid_in : good (settled at.place.line l.result readings) ≡ true → by_section c.if-place-eq0.cells ≡ stored l.result readings =
     elim c.if-place-eq0.branch [
       | then-place-eq0 t ↦ (λ g. ap by_section t.cells-is ∙ lay-row at.cells l.result.said.row (column w) _
-          ∙ ap (λ (x : Reading). lay readings l.result.said.row (column w) x) t.reading_of-x.ensures)
+          ∙ ap (λ (x : Reading). lay readings l.result.said.row (column w) (Some x)) t.reading_of.ensures)
       | else-place-eq0 t ↦ (λ g. not-both (good c.read_once-place.result) (ap good settles ∙ g) (is-bad c.read_once-place.result t.if-place-eq0.false))
     ] in (
       at.invariant.0,
