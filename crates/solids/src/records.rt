@@ -1,9 +1,10 @@
 // The heat of ware, setters and parts: m c (T − T₀) of each record, and the sums.
-ghost use Rattle.std.specs.Prelude.{◌≡◌, ◌≤◌, ◌*◌, ℤ, length};
+ghost use Rattle.std.specs.Prelude.{◌≡◌, ◌≤◌, ◌*◌, ℕ, ℤ, length};
+ghost use lib.Dec.{lit≤};
 ghost use Rattle.sheet.specs.Firing.{Firing};
 ghost use Rattle.sheet.specs.Block.{sum};
 ghost use Rattle.sheet.specs.Shown.{setter as setter_of, part as part_of, ware as ware_of};
-ghost use Rattle.sheet.specs.Quantities.{temperature};
+ghost use Rattle.sheet.specs.Quantities.{temperature, setters_most, parts_most};
 ghost use Rattle.document.specs.Rules.{Every};
 ghost use Rattle.document.specs.Lawful.{SetterIn, PartIn};
 ghost use Rattle.formulas.specs.Rounding.{paper};
@@ -44,6 +45,11 @@ struct Heats {
 
 // A record that is heated, between temperatures of its own and of the firing.
 trait Load<At>: Copy {
+    // How many of them a block has at most.
+    ghost most: { ℕ };
+
+    ghost few: { most ≤ records_most };
+
     ghost within: { Self → At → Type 0 };
 
     ghost brought: { Self → At → ℤ };
@@ -57,6 +63,10 @@ trait Load<At>: Copy {
 }
 
 impl Load<(Degrees, Degrees)> for Setter {
+    ghost most = { setters_most };
+
+    ghost few = { lit≤ tt };
+
     ghost within = { λ x at. SetterIn (setter_of x) × Within (greatest temperature) at.0.0 × Within (greatest temperature) at.1.0 };
 
     ghost brought = { λ x at. sensible paper (setter_of x).mass (setter_of x).stuff (setter_of x).entry at.0.0 };
@@ -74,6 +84,10 @@ impl Load<(Degrees, Degrees)> for Setter {
 }
 
 impl Load<Degrees> for Part {
+    ghost most = { parts_most };
+
+    ghost few = { lit≤ tt };
+
     ghost within = { λ x at. PartIn (part_of x) × Within (greatest temperature) at.0 };
 
     ghost brought = { λ x at. sensible paper (part_of x).mass (part_of x).stuff (part_of x).before at.0 };
@@ -90,10 +104,10 @@ impl Load<Degrees> for Part {
 
 // Both heats of all records of a block.
 fn all_heats<At: Copy, L: Load<At>>(lines: &[L], at: At) -> Heats
-    requires room { length lines.now ≤ records_most }
+    requires room { length lines.now ≤ L.most }
     requires each { Every (λ x. L.within x at) lines.now }
-    ensures brings { Figure joule (records_most * sensible_most) result.brought.0 (sum (λ x. L.brought x at) lines.now) }
-    ensures takes { Figure joule (records_most * sensible_most) result.taken.0 (sum (λ x. L.taken x at) lines.now) }
+    ensures brings { Figure joule (L.most * sensible_most) result.brought.0 (sum (λ x. L.brought x at) lines.now) }
+    ensures takes { Figure joule (L.most * sensible_most) result.taken.0 (sum (λ x. L.taken x at) lines.now) }
 {
     let mut brought = Joules(0);
     let mut taken = Joules(0);
