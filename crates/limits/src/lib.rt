@@ -27,7 +27,7 @@ fn first_fault(fault: usize, field: usize) -> usize
 }
 
 // The number that is given, where it lies between two limits, both of them included.
-fn measured(v: Number, least: i32, greatest: i32) -> Option<i32>
+fn in_range(v: Number, least: i32, greatest: i32) -> Option<i32>
     ensures { MatchOption result (least ≤ℤ v.0 → v.0 ≤ℤ greatest → ⊥) (λ units. (least ≤ℤ units) × (units ≤ℤ greatest) × (units ≡ v.0)) }
 {
     let given = v.0;
@@ -38,7 +38,7 @@ fn measured(v: Number, least: i32, greatest: i32) -> Option<i32>
 }
 
 // The same of a count, which has no sign.
-fn counted(v: Number, least: usize, greatest: usize) -> Option<usize>
+fn in_count(v: Number, least: usize, greatest: usize) -> Option<usize>
     ensures { MatchOption result (pos least ≤ℤ v.0 → v.0 ≤ℤ pos greatest → ⊥)
         (λ number. (least ≤ number) × (number ≤ greatest) × (pos number ≡ v.0)) }
 {
@@ -50,6 +50,38 @@ fn counted(v: Number, least: usize, greatest: usize) -> Option<usize>
         }
     }
     None
+}
+
+// A number held to two limits: outside them the least stands for it, and the field is the fault unless there was one.
+pub fn measured(v: Number, least: i32, greatest: i32, fault: usize, field: usize) -> Checked<i32>
+    ensures { Measured least greatest v.0 fault field result.value result.fault }
+{
+    match in_range(v, least, greatest) {
+        Some(value) => Checked { value, fault },
+        None => Checked {
+            value: least,
+            fault: first_fault(fault, field),
+        },
+    }
+}
+
+// The same of a count.
+pub fn counted(
+    v: Number,
+    least: usize,
+    greatest: usize,
+    fault: usize,
+    field: usize,
+) -> Checked<usize>
+    ensures { Counted least greatest v.0 fault field result.value result.fault }
+{
+    match in_count(v, least, greatest) {
+        Some(value) => Checked { value, fault },
+        None => Checked {
+            value: least,
+            fault: first_fault(fault, field),
+        },
+    }
 }
 
 // A measured quantity has a sign, and its limits fit 32 bits.
@@ -74,15 +106,10 @@ pub trait Measure: Drop {
     fn checked(v: Number, fault: usize, field: usize) -> Checked<Self>
         ensures { Measured LEAST GREATEST v.0 fault field (amount result.value) result.fault }
     {
-        match measured(v, Self::LEAST, Self::GREATEST) {
-            Some(units) => Checked {
-                value: Self::of(units),
-                fault,
-            },
-            None => Checked {
-                value: Self::of(Self::LEAST),
-                fault: first_fault(fault, field),
-            },
+        let read = measured(v, Self::LEAST, Self::GREATEST, fault, field);
+        Checked {
+            value: Self::of(read.value),
+            fault: read.fault,
         }
     }
 
@@ -111,15 +138,10 @@ pub trait Count: Drop {
     fn checked(v: Number, fault: usize, field: usize) -> Checked<Self>
         ensures { Counted LEAST GREATEST v.0 fault field (amount result.value) result.fault }
     {
-        match counted(v, Self::LEAST, Self::GREATEST) {
-            Some(number) => Checked {
-                value: Self::numbered(number),
-                fault,
-            },
-            None => Checked {
-                value: Self::numbered(Self::LEAST),
-                fault: first_fault(fault, field),
-            },
+        let read = counted(v, Self::LEAST, Self::GREATEST, fault, field);
+        Checked {
+            value: Self::numbered(read.value),
+            fault: read.fault,
         }
     }
 

@@ -1,10 +1,7 @@
--- A number between the limits is taken as it stands; one that is not has the least in its place. Assumes nothing.
+-- What stands for a number lies between the limits, whether it is the number or the least. Assumes nothing.
 use Rattle.std.proofs.Common.{arith}
-use Rattle.limits.proofs.Laws.{taken, refused}
+use Rattle.limits.proofs.Laws.{within}
 use Rattle.limits.proofs.Measure.checked.Goals as goal
 
-pub returns-in-Some : goal.returns-in-Some
-returns-in-Some g c = taken _ (grind arith) (grind arith) (grind arith)
-
-pub returns-in-None : goal.returns-in-None
-returns-in-None g c = refused (λ low high. grind (arith, low, high)) (rw c.of-in-None.ensures (grind arith)) c.first_fault.ensures
+pub of-requires : goal.of-requires
+of-requires g c = let b = within c.measured-read.ensures (grind arith) in (grind (arith, b.low), grind (arith, b.high))
