@@ -1,12 +1,12 @@
 -- What each formula's code asks: that no step of it leaves an i64, or the ranges from which that follows.
-use Rattle.std.specs.Prelude.{ℕ, ◌<◌, ◌≡◌, List, map, ℤ, pos, ◌+ℤ◌, ◌-ℤ◌, ◌*ℤ◌, take}
+use Rattle.std.specs.Prelude.{ℕ, ◌<◌, max, ◌≡◌, List, map, ℤ, pos, ◌+ℤ◌, ◌-ℤ◌, ◌*ℤ◌, take}
 use Rattle.std.specs.Int.{w64}
 use Rattle.std.proofs.Common.{SFits}
 use Rattle.sheet.specs.declared.Setters.{Setters as Settersˢ}
 use Rattle.sheet.specs.declared.Parts.{Parts as Partsˢ}
 use Rattle.sheet.specs.Firing.{Stuff, Ware, Water, Setter, Part}
 use Rattle.sheet.specs.Shown.{setter, part}
-use Rattle.sheet.specs.Quantities.{product, ambient, mass, temperature}
+use Rattle.sheet.specs.Quantities.{product, ambient, mass, temperature, setters_most, parts_most}
 use Rattle.document.specs.Rules.{Every}
 use Rattle.document.specs.Lawful.{In, StuffIn, WareIn, WaterIn}
 use Rattle.formulas.specs.Tables.{row_of, straight_at}
@@ -42,9 +42,9 @@ setters_of x = map setter (take x.count.0 x.lines)
 abbrev pub parts_of : Partsˢ → List Part
 parts_of x = map part (take x.count.0 x.lines)
 
--- no block has more setters, or more parts
+-- no block has more of them, of setters or of parts
 abbrev pub records_most : ℕ
-records_most = 32
+records_most = max setters_most parts_most
 
 -- setters or parts within their limits, and the other temperature
 pub record Loads {A : Type 0} (In₁ : A → Type 0) (l : List A) (T : ℤ) : Type 0 where
