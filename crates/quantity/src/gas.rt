@@ -1,5 +1,4 @@
 // The fuel, the air that burns it and the flue gas that leaves.
-ghost use Rattle.std.specs.Prelude.{pos};
 ghost use Rattle.std.proofs.Common.{rules};
 
 use limits::Measure;
@@ -8,14 +7,22 @@ use limits::Measure;
 #[derive(Clone, Copy)]
 pub struct Share(pub i32);
 
+impl Share {
+    pub const LEAST: i32 = 0;
+
+    pub const GREATEST: i32 = 10_000;
+}
+
 impl Measure for Share {
-    const LEAST: i32 = 0;
+    ghost use Rattle.quantity.specs.declared.gas.TheConstants.Share.{LEAST as least, GREATEST as greatest};
 
-    const GREATEST: i32 = 10_000;
+    const LEAST: i32 = Share::LEAST;
 
-    ghost LEAST = { pos 0 };
+    const GREATEST: i32 = Share::GREATEST;
 
-    ghost GREATEST = { pos 10000 };
+    ghost LEAST = { least };
+
+    ghost GREATEST = { greatest };
 
     ghost amount = { λ held. held.0 };
 
@@ -30,14 +37,22 @@ impl Measure for Share {
 #[derive(Clone, Copy)]
 pub struct Moisture(pub i32);
 
+impl Moisture {
+    pub const LEAST: i32 = 0;
+
+    pub const GREATEST: i32 = 500;
+}
+
 impl Measure for Moisture {
-    const LEAST: i32 = 0;
+    ghost use Rattle.quantity.specs.declared.gas.TheConstants.Moisture.{LEAST as least, GREATEST as greatest};
 
-    const GREATEST: i32 = 500;
+    const LEAST: i32 = Moisture::LEAST;
 
-    ghost LEAST = { pos 0 };
+    const GREATEST: i32 = Moisture::GREATEST;
 
-    ghost GREATEST = { pos 500 };
+    ghost LEAST = { least };
+
+    ghost GREATEST = { greatest };
 
     ghost amount = { λ held. held.0 };
 
@@ -52,14 +67,22 @@ impl Measure for Moisture {
 #[derive(Clone, Copy)]
 pub struct CubicMetres(pub i32);
 
+impl CubicMetres {
+    pub const LEAST: i32 = 0;
+
+    pub const GREATEST: i32 = 200_000;
+}
+
 impl Measure for CubicMetres {
-    const LEAST: i32 = 0;
+    ghost use Rattle.quantity.specs.declared.gas.TheConstants.CubicMetres.{LEAST as least, GREATEST as greatest};
 
-    const GREATEST: i32 = 200_000;
+    const LEAST: i32 = CubicMetres::LEAST;
 
-    ghost LEAST = { pos 0 };
+    const GREATEST: i32 = CubicMetres::GREATEST;
 
-    ghost GREATEST = { pos 200000 };
+    ghost LEAST = { least };
+
+    ghost GREATEST = { greatest };
 
     ghost amount = { λ held. held.0 };
 
@@ -74,14 +97,22 @@ impl Measure for CubicMetres {
 #[derive(Clone, Copy)]
 pub struct GasTotal(pub i32);
 
+impl GasTotal {
+    pub const LEAST: i32 = 100;
+
+    pub const GREATEST: i32 = 200_000;
+}
+
 impl Measure for GasTotal {
-    const LEAST: i32 = 100;
+    ghost use Rattle.quantity.specs.declared.gas.TheConstants.GasTotal.{LEAST as least, GREATEST as greatest};
 
-    const GREATEST: i32 = 200_000;
+    const LEAST: i32 = GasTotal::LEAST;
 
-    ghost LEAST = { pos 100 };
+    const GREATEST: i32 = GasTotal::GREATEST;
 
-    ghost GREATEST = { pos 200000 };
+    ghost LEAST = { least };
+
+    ghost GREATEST = { greatest };
 
     ghost amount = { λ held. held.0 };
 
@@ -96,14 +127,22 @@ impl Measure for GasTotal {
 #[derive(Clone, Copy)]
 pub struct ExcessAir(pub i32);
 
+impl ExcessAir {
+    pub const LEAST: i32 = 1_000;
+
+    pub const GREATEST: i32 = 5_000;
+}
+
 impl Measure for ExcessAir {
-    const LEAST: i32 = 1_000;
+    ghost use Rattle.quantity.specs.declared.gas.TheConstants.ExcessAir.{LEAST as least, GREATEST as greatest};
 
-    const GREATEST: i32 = 5_000;
+    const LEAST: i32 = ExcessAir::LEAST;
 
-    ghost LEAST = { pos 1000 };
+    const GREATEST: i32 = ExcessAir::GREATEST;
 
-    ghost GREATEST = { pos 5000 };
+    ghost LEAST = { least };
+
+    ghost GREATEST = { greatest };
 
     ghost amount = { λ held. held.0 };
 
@@ -119,14 +158,22 @@ impl Measure for ExcessAir {
 #[derive(Clone, Copy)]
 pub struct CarbonMonoxide(pub i16);
 
+impl CarbonMonoxide {
+    pub const LEAST: i32 = 0;
+
+    pub const GREATEST: i32 = 1_000;
+}
+
 impl Measure for CarbonMonoxide {
-    const LEAST: i32 = 0;
+    ghost use Rattle.quantity.specs.declared.gas.TheConstants.CarbonMonoxide.{LEAST as least, GREATEST as greatest};
 
-    const GREATEST: i32 = 1_000;
+    const LEAST: i32 = CarbonMonoxide::LEAST;
 
-    ghost LEAST = { pos 0 };
+    const GREATEST: i32 = CarbonMonoxide::GREATEST;
 
-    ghost GREATEST = { pos 1000 };
+    ghost LEAST = { least };
+
+    ghost GREATEST = { greatest };
 
     ghost amount = { λ held. held.0 };
 
@@ -142,14 +189,22 @@ impl Measure for CarbonMonoxide {
 #[derive(Clone, Copy)]
 pub struct Dioxides(pub i16);
 
+impl Dioxides {
+    pub const LEAST: i32 = 0;
+
+    pub const GREATEST: i32 = 2_500;
+}
+
 impl Measure for Dioxides {
-    const LEAST: i32 = 0;
+    ghost use Rattle.quantity.specs.declared.gas.TheConstants.Dioxides.{LEAST as least, GREATEST as greatest};
 
-    const GREATEST: i32 = 2_500;
+    const LEAST: i32 = Dioxides::LEAST;
 
-    ghost LEAST = { pos 0 };
+    const GREATEST: i32 = Dioxides::GREATEST;
 
-    ghost GREATEST = { pos 2500 };
+    ghost LEAST = { least };
+
+    ghost GREATEST = { greatest };
 
     ghost amount = { λ held. held.0 };
 
@@ -165,14 +220,22 @@ impl Measure for Dioxides {
 #[derive(Clone, Copy)]
 pub struct Oxygen(pub i16);
 
+impl Oxygen {
+    pub const LEAST: i32 = 0;
+
+    pub const GREATEST: i32 = 2_100;
+}
+
 impl Measure for Oxygen {
-    const LEAST: i32 = 0;
+    ghost use Rattle.quantity.specs.declared.gas.TheConstants.Oxygen.{LEAST as least, GREATEST as greatest};
 
-    const GREATEST: i32 = 2_100;
+    const LEAST: i32 = Oxygen::LEAST;
 
-    ghost LEAST = { pos 0 };
+    const GREATEST: i32 = Oxygen::GREATEST;
 
-    ghost GREATEST = { pos 2100 };
+    ghost LEAST = { least };
+
+    ghost GREATEST = { greatest };
 
     ghost amount = { λ held. held.0 };
 

@@ -1,5 +1,5 @@
 // What heat is worth: of the fuel, of a material, and in joules.
-ghost use Rattle.std.specs.Prelude.{◌≡◌, ◌+ℤ◌, ◌-ℤ◌, pos};
+ghost use Rattle.std.specs.Prelude.{◌≡◌, ◌+ℤ◌, ◌-ℤ◌};
 ghost use Rattle.std.specs.Int.{w64};
 ghost use Rattle.std.proofs.Common.{SFits, rules};
 
@@ -9,14 +9,22 @@ use limits::Measure;
 #[derive(Clone, Copy)]
 pub struct HeatingValue(pub i32);
 
+impl HeatingValue {
+    pub const LEAST: i32 = 3_000;
+
+    pub const GREATEST: i32 = 130_000;
+}
+
 impl Measure for HeatingValue {
-    const LEAST: i32 = 3_000;
+    ghost use Rattle.quantity.specs.declared.heat.TheConstants.HeatingValue.{LEAST as least, GREATEST as greatest};
 
-    const GREATEST: i32 = 130_000;
+    const LEAST: i32 = HeatingValue::LEAST;
 
-    ghost LEAST = { pos 3000 };
+    const GREATEST: i32 = HeatingValue::GREATEST;
 
-    ghost GREATEST = { pos 130000 };
+    ghost LEAST = { least };
+
+    ghost GREATEST = { greatest };
 
     ghost amount = { λ held. held.0 };
 
@@ -31,14 +39,22 @@ impl Measure for HeatingValue {
 #[derive(Clone, Copy)]
 pub struct SpecificHeat(pub i32);
 
+impl SpecificHeat {
+    pub const LEAST: i32 = 0;
+
+    pub const GREATEST: i32 = 100_000;
+}
+
 impl Measure for SpecificHeat {
-    const LEAST: i32 = 0;
+    ghost use Rattle.quantity.specs.declared.heat.TheConstants.SpecificHeat.{LEAST as least, GREATEST as greatest};
 
-    const GREATEST: i32 = 100_000;
+    const LEAST: i32 = SpecificHeat::LEAST;
 
-    ghost LEAST = { pos 0 };
+    const GREATEST: i32 = SpecificHeat::GREATEST;
 
-    ghost GREATEST = { pos 100000 };
+    ghost LEAST = { least };
+
+    ghost GREATEST = { greatest };
 
     ghost amount = { λ held. held.0 };
 

@@ -1,5 +1,4 @@
 // The stages of a firing and the sections of the kiln.
-ghost use Rattle.std.specs.Prelude.{pos};
 ghost use Rattle.std.proofs.Common.{rules};
 
 use crate::sheet::StageCount;
@@ -9,14 +8,22 @@ use limits::{Count, Measure};
 #[derive(Clone, Copy)]
 pub struct StageNumber(pub usize);
 
+impl StageNumber {
+    pub const LEAST: usize = 1;
+
+    pub const GREATEST: usize = StageCount::GREATEST;
+}
+
 impl Count for StageNumber {
-    const LEAST: usize = 1;
+    ghost use Rattle.quantity.specs.declared.kiln.TheConstants.StageNumber.{LEAST as least, GREATEST as greatest};
 
-    const GREATEST: usize = StageCount::GREATEST;
+    const LEAST: usize = StageNumber::LEAST;
 
-    ghost LEAST = { 1 };
+    const GREATEST: usize = StageNumber::GREATEST;
 
-    ghost GREATEST = { 12 };
+    ghost LEAST = { least };
+
+    ghost GREATEST = { greatest };
 
     ghost amount = { λ held. held.0 };
 
@@ -32,14 +39,22 @@ impl Count for StageNumber {
 #[derive(Clone, Copy)]
 pub struct Minutes(pub i16);
 
+impl Minutes {
+    pub const LEAST: i32 = 1;
+
+    pub const GREATEST: i32 = 2_880;
+}
+
 impl Measure for Minutes {
-    const LEAST: i32 = 1;
+    ghost use Rattle.quantity.specs.declared.kiln.TheConstants.Minutes.{LEAST as least, GREATEST as greatest};
 
-    const GREATEST: i32 = 2_880;
+    const LEAST: i32 = Minutes::LEAST;
 
-    ghost LEAST = { pos 1 };
+    const GREATEST: i32 = Minutes::GREATEST;
 
-    ghost GREATEST = { pos 2880 };
+    ghost LEAST = { least };
+
+    ghost GREATEST = { greatest };
 
     ghost amount = { λ held. held.0 };
 
@@ -54,14 +69,22 @@ impl Measure for Minutes {
 #[derive(Clone, Copy)]
 pub struct SectionNumber(pub usize);
 
+impl SectionNumber {
+    pub const LEAST: usize = 1;
+
+    pub const GREATEST: usize = 999;
+}
+
 impl Count for SectionNumber {
-    const LEAST: usize = 1;
+    ghost use Rattle.quantity.specs.declared.kiln.TheConstants.SectionNumber.{LEAST as least, GREATEST as greatest};
 
-    const GREATEST: usize = 999;
+    const LEAST: usize = SectionNumber::LEAST;
 
-    ghost LEAST = { 1 };
+    const GREATEST: usize = SectionNumber::GREATEST;
 
-    ghost GREATEST = { 999 };
+    ghost LEAST = { least };
+
+    ghost GREATEST = { greatest };
 
     ghost amount = { λ held. held.0 };
 
@@ -76,14 +99,22 @@ impl Count for SectionNumber {
 #[derive(Clone, Copy)]
 pub struct SectionPlace(pub usize);
 
+impl SectionPlace {
+    pub const LEAST: usize = 1;
+
+    pub const GREATEST: usize = 3;
+}
+
 impl Count for SectionPlace {
-    const LEAST: usize = 1;
+    ghost use Rattle.quantity.specs.declared.kiln.TheConstants.SectionPlace.{LEAST as least, GREATEST as greatest};
 
-    const GREATEST: usize = 3;
+    const LEAST: usize = SectionPlace::LEAST;
 
-    ghost LEAST = { 1 };
+    const GREATEST: usize = SectionPlace::GREATEST;
 
-    ghost GREATEST = { 3 };
+    ghost LEAST = { least };
+
+    ghost GREATEST = { greatest };
 
     ghost amount = { λ held. held.0 };
 
@@ -98,14 +129,22 @@ impl Count for SectionPlace {
 #[derive(Clone, Copy)]
 pub struct Area(pub i32);
 
+impl Area {
+    pub const LEAST: i32 = 1;
+
+    pub const GREATEST: i32 = 20_000;
+}
+
 impl Measure for Area {
-    const LEAST: i32 = 1;
+    ghost use Rattle.quantity.specs.declared.kiln.TheConstants.Area.{LEAST as least, GREATEST as greatest};
 
-    const GREATEST: i32 = 20_000;
+    const LEAST: i32 = Area::LEAST;
 
-    ghost LEAST = { pos 1 };
+    const GREATEST: i32 = Area::GREATEST;
 
-    ghost GREATEST = { pos 20000 };
+    ghost LEAST = { least };
+
+    ghost GREATEST = { greatest };
 
     ghost amount = { λ held. held.0 };
 
@@ -120,14 +159,22 @@ impl Measure for Area {
 #[derive(Clone, Copy)]
 pub struct Material(pub u32);
 
+impl Material {
+    pub const LEAST: usize = 0;
+
+    pub const GREATEST: usize = 18;
+}
+
 impl Count for Material {
-    const LEAST: usize = 0;
+    ghost use Rattle.quantity.specs.declared.kiln.TheConstants.Material.{LEAST as least, GREATEST as greatest};
 
-    const GREATEST: usize = 18;
+    const LEAST: usize = Material::LEAST;
 
-    ghost LEAST = { 0 };
+    const GREATEST: usize = Material::GREATEST;
 
-    ghost GREATEST = { 18 };
+    ghost LEAST = { least };
+
+    ghost GREATEST = { greatest };
 
     ghost amount = { λ held. held.0 };
 

@@ -1,5 +1,4 @@
 // Masses.
-ghost use Rattle.std.specs.Prelude.{pos};
 ghost use Rattle.std.proofs.Common.{rules};
 
 use limits::Measure;
@@ -8,14 +7,22 @@ use limits::Measure;
 #[derive(Clone, Copy)]
 pub struct Product(pub i32);
 
+impl Product {
+    pub const LEAST: i32 = 1_000;
+
+    pub const GREATEST: i32 = 1_000_000;
+}
+
 impl Measure for Product {
-    const LEAST: i32 = 1_000;
+    ghost use Rattle.quantity.specs.declared.mass.TheConstants.Product.{LEAST as least, GREATEST as greatest};
 
-    const GREATEST: i32 = 1_000_000;
+    const LEAST: i32 = Product::LEAST;
 
-    ghost LEAST = { pos 1000 };
+    const GREATEST: i32 = Product::GREATEST;
 
-    ghost GREATEST = { pos 1000000 };
+    ghost LEAST = { least };
+
+    ghost GREATEST = { greatest };
 
     ghost amount = { λ held. held.0 };
 
@@ -30,14 +37,22 @@ impl Measure for Product {
 #[derive(Clone, Copy)]
 pub struct Kilos(pub i32);
 
+impl Kilos {
+    pub const LEAST: i32 = 0;
+
+    pub const GREATEST: i32 = 1_000_000;
+}
+
 impl Measure for Kilos {
-    const LEAST: i32 = 0;
+    ghost use Rattle.quantity.specs.declared.mass.TheConstants.Kilos.{LEAST as least, GREATEST as greatest};
 
-    const GREATEST: i32 = 1_000_000;
+    const LEAST: i32 = Kilos::LEAST;
 
-    ghost LEAST = { pos 0 };
+    const GREATEST: i32 = Kilos::GREATEST;
 
-    ghost GREATEST = { pos 1000000 };
+    ghost LEAST = { least };
+
+    ghost GREATEST = { greatest };
 
     ghost amount = { λ held. held.0 };
 

@@ -1,5 +1,4 @@
 // What numbers a sheet and says how many lines follow.
-ghost use Rattle.std.specs.Prelude.{pos};
 ghost use Rattle.std.proofs.Common.{rules};
 
 use limits::{Count, Measure};
@@ -8,14 +7,22 @@ use limits::{Count, Measure};
 #[derive(Clone, Copy)]
 pub struct Edition(pub usize);
 
+impl Edition {
+    pub const LEAST: usize = 1;
+
+    pub const GREATEST: usize = 2;
+}
+
 impl Count for Edition {
-    const LEAST: usize = 1;
+    ghost use Rattle.quantity.specs.declared.sheet.TheConstants.Edition.{LEAST as least, GREATEST as greatest};
 
-    const GREATEST: usize = 2;
+    const LEAST: usize = Edition::LEAST;
 
-    ghost LEAST = { 1 };
+    const GREATEST: usize = Edition::GREATEST;
 
-    ghost GREATEST = { 2 };
+    ghost LEAST = { least };
+
+    ghost GREATEST = { greatest };
 
     ghost amount = { λ held. held.0 };
 
@@ -30,14 +37,22 @@ impl Count for Edition {
 #[derive(Clone, Copy)]
 pub struct FiringNumber(pub i32);
 
+impl FiringNumber {
+    pub const LEAST: i32 = 1;
+
+    pub const GREATEST: i32 = 999_999_999;
+}
+
 impl Measure for FiringNumber {
-    const LEAST: i32 = 1;
+    ghost use Rattle.quantity.specs.declared.sheet.TheConstants.FiringNumber.{LEAST as least, GREATEST as greatest};
 
-    const GREATEST: i32 = 999_999_999;
+    const LEAST: i32 = FiringNumber::LEAST;
 
-    ghost LEAST = { pos 1 };
+    const GREATEST: i32 = FiringNumber::GREATEST;
 
-    ghost GREATEST = { pos 999999999 };
+    ghost LEAST = { least };
+
+    ghost GREATEST = { greatest };
 
     ghost amount = { λ held. held.0 };
 
@@ -52,14 +67,22 @@ impl Measure for FiringNumber {
 #[derive(Clone, Copy)]
 pub struct StageCount(pub usize);
 
+impl StageCount {
+    pub const LEAST: usize = 1;
+
+    pub const GREATEST: usize = 12;
+}
+
 impl Count for StageCount {
-    const LEAST: usize = 1;
+    ghost use Rattle.quantity.specs.declared.sheet.TheConstants.StageCount.{LEAST as least, GREATEST as greatest};
 
-    const GREATEST: usize = 12;
+    const LEAST: usize = StageCount::LEAST;
 
-    ghost LEAST = { 1 };
+    const GREATEST: usize = StageCount::GREATEST;
 
-    ghost GREATEST = { 12 };
+    ghost LEAST = { least };
+
+    ghost GREATEST = { greatest };
 
     ghost amount = { λ held. held.0 };
 
@@ -74,14 +97,22 @@ impl Count for StageCount {
 #[derive(Clone, Copy)]
 pub struct SetterCount(pub usize);
 
+impl SetterCount {
+    pub const LEAST: usize = 0;
+
+    pub const GREATEST: usize = 32;
+}
+
 impl Count for SetterCount {
-    const LEAST: usize = 0;
+    ghost use Rattle.quantity.specs.declared.sheet.TheConstants.SetterCount.{LEAST as least, GREATEST as greatest};
 
-    const GREATEST: usize = 32;
+    const LEAST: usize = SetterCount::LEAST;
 
-    ghost LEAST = { 0 };
+    const GREATEST: usize = SetterCount::GREATEST;
 
-    ghost GREATEST = { 32 };
+    ghost LEAST = { least };
+
+    ghost GREATEST = { greatest };
 
     ghost amount = { λ held. held.0 };
 
@@ -96,14 +127,22 @@ impl Count for SetterCount {
 #[derive(Clone, Copy)]
 pub struct PartCount(pub usize);
 
+impl PartCount {
+    pub const LEAST: usize = 0;
+
+    pub const GREATEST: usize = 32;
+}
+
 impl Count for PartCount {
-    const LEAST: usize = 0;
+    ghost use Rattle.quantity.specs.declared.sheet.TheConstants.PartCount.{LEAST as least, GREATEST as greatest};
 
-    const GREATEST: usize = 32;
+    const LEAST: usize = PartCount::LEAST;
 
-    ghost LEAST = { 0 };
+    const GREATEST: usize = PartCount::GREATEST;
 
-    ghost GREATEST = { 32 };
+    ghost LEAST = { least };
+
+    ghost GREATEST = { greatest };
 
     ghost amount = { λ held. held.0 };
 
@@ -118,14 +157,22 @@ impl Count for PartCount {
 #[derive(Clone, Copy)]
 pub struct SectionCount(pub usize);
 
+impl SectionCount {
+    pub const LEAST: usize = 1;
+
+    pub const GREATEST: usize = 12;
+}
+
 impl Count for SectionCount {
-    const LEAST: usize = 1;
+    ghost use Rattle.quantity.specs.declared.sheet.TheConstants.SectionCount.{LEAST as least, GREATEST as greatest};
 
-    const GREATEST: usize = 12;
+    const LEAST: usize = SectionCount::LEAST;
 
-    ghost LEAST = { 1 };
+    const GREATEST: usize = SectionCount::GREATEST;
 
-    ghost GREATEST = { 12 };
+    ghost LEAST = { least };
+
+    ghost GREATEST = { greatest };
 
     ghost amount = { λ held. held.0 };
 
@@ -140,14 +187,22 @@ impl Count for SectionCount {
 #[derive(Drop)]
 pub struct WallCount(pub usize);
 
+impl WallCount {
+    pub const LEAST: usize = 0;
+
+    pub const GREATEST: usize = 48;
+}
+
 impl Count for WallCount {
-    const LEAST: usize = 0;
+    ghost use Rattle.quantity.specs.declared.sheet.TheConstants.WallCount.{LEAST as least, GREATEST as greatest};
 
-    const GREATEST: usize = 48;
+    const LEAST: usize = WallCount::LEAST;
 
-    ghost LEAST = { 0 };
+    const GREATEST: usize = WallCount::GREATEST;
 
-    ghost GREATEST = { 48 };
+    ghost LEAST = { least };
+
+    ghost GREATEST = { greatest };
 
     ghost amount = { λ held. held.0 };
 
@@ -162,14 +217,22 @@ impl Count for WallCount {
 #[derive(Drop)]
 pub struct Closing(pub usize);
 
+impl Closing {
+    pub const LEAST: usize = 1;
+
+    pub const GREATEST: usize = 1;
+}
+
 impl Count for Closing {
-    const LEAST: usize = 1;
+    ghost use Rattle.quantity.specs.declared.sheet.TheConstants.Closing.{LEAST as least, GREATEST as greatest};
 
-    const GREATEST: usize = 1;
+    const LEAST: usize = Closing::LEAST;
 
-    ghost LEAST = { 1 };
+    const GREATEST: usize = Closing::GREATEST;
 
-    ghost GREATEST = { 1 };
+    ghost LEAST = { least };
+
+    ghost GREATEST = { greatest };
 
     ghost amount = { λ held. held.0 };
 

@@ -1,5 +1,5 @@
 // Temperatures, and how far one lies above another.
-ghost use Rattle.std.specs.Prelude.{◌≡◌, ◌-ℤ◌, pos, neg_ℤ};
+ghost use Rattle.std.specs.Prelude.{◌≡◌, ◌-ℤ◌};
 ghost use Rattle.std.specs.Int.{w64};
 ghost use Rattle.std.proofs.Common.{SFits, rules};
 
@@ -9,14 +9,22 @@ use limits::Measure;
 #[derive(Clone, Copy)]
 pub struct Degrees(pub i32);
 
+impl Degrees {
+    pub const LEAST: i32 = -200;
+
+    pub const GREATEST: i32 = 18_000;
+}
+
 impl Measure for Degrees {
-    const LEAST: i32 = -200;
+    ghost use Rattle.quantity.specs.declared.temperature.TheConstants.Degrees.{LEAST as least, GREATEST as greatest};
 
-    const GREATEST: i32 = 18_000;
+    const LEAST: i32 = Degrees::LEAST;
 
-    ghost LEAST = { neg_ℤ (pos 200) };
+    const GREATEST: i32 = Degrees::GREATEST;
 
-    ghost GREATEST = { pos 18000 };
+    ghost LEAST = { least };
+
+    ghost GREATEST = { greatest };
 
     ghost amount = { λ held. held.0 };
 
@@ -41,14 +49,22 @@ impl Degrees {
 #[derive(Clone, Copy)]
 pub struct Ambient(pub i32);
 
+impl Ambient {
+    pub const LEAST: i32 = -200;
+
+    pub const GREATEST: i32 = 500;
+}
+
 impl Measure for Ambient {
-    const LEAST: i32 = -200;
+    ghost use Rattle.quantity.specs.declared.temperature.TheConstants.Ambient.{LEAST as least, GREATEST as greatest};
 
-    const GREATEST: i32 = 500;
+    const LEAST: i32 = Ambient::LEAST;
 
-    ghost LEAST = { neg_ℤ (pos 200) };
+    const GREATEST: i32 = Ambient::GREATEST;
 
-    ghost GREATEST = { pos 500 };
+    ghost LEAST = { least };
+
+    ghost GREATEST = { greatest };
 
     ghost amount = { λ held. held.0 };
 
@@ -72,14 +88,22 @@ impl From<Ambient> for Degrees {
 #[derive(Clone, Copy)]
 pub struct FuelTemperature(pub i32);
 
+impl FuelTemperature {
+    pub const LEAST: i32 = 0;
+
+    pub const GREATEST: i32 = 600;
+}
+
 impl Measure for FuelTemperature {
-    const LEAST: i32 = 0;
+    ghost use Rattle.quantity.specs.declared.temperature.TheConstants.FuelTemperature.{LEAST as least, GREATEST as greatest};
 
-    const GREATEST: i32 = 600;
+    const LEAST: i32 = FuelTemperature::LEAST;
 
-    ghost LEAST = { pos 0 };
+    const GREATEST: i32 = FuelTemperature::GREATEST;
 
-    ghost GREATEST = { pos 600 };
+    ghost LEAST = { least };
+
+    ghost GREATEST = { greatest };
 
     ghost amount = { λ held. held.0 };
 
@@ -104,14 +128,22 @@ impl From<FuelTemperature> for Degrees {
 #[derive(Clone, Copy)]
 pub struct FlueTemperature(pub i16);
 
+impl FlueTemperature {
+    pub const LEAST: i32 = 0;
+
+    pub const GREATEST: i32 = 12_000;
+}
+
 impl Measure for FlueTemperature {
-    const LEAST: i32 = 0;
+    ghost use Rattle.quantity.specs.declared.temperature.TheConstants.FlueTemperature.{LEAST as least, GREATEST as greatest};
 
-    const GREATEST: i32 = 12_000;
+    const LEAST: i32 = FlueTemperature::LEAST;
 
-    ghost LEAST = { pos 0 };
+    const GREATEST: i32 = FlueTemperature::GREATEST;
 
-    ghost GREATEST = { pos 12000 };
+    ghost LEAST = { least };
+
+    ghost GREATEST = { greatest };
 
     ghost amount = { λ held. held.0 };
 
@@ -136,14 +168,22 @@ impl From<FlueTemperature> for Degrees {
 #[derive(Drop)]
 pub struct AnalysedFlueTemperature(pub i16);
 
+impl AnalysedFlueTemperature {
+    pub const LEAST: i32 = 0;
+
+    pub const GREATEST: i32 = 10_000;
+}
+
 impl Measure for AnalysedFlueTemperature {
-    const LEAST: i32 = 0;
+    ghost use Rattle.quantity.specs.declared.temperature.TheConstants.AnalysedFlueTemperature.{LEAST as least, GREATEST as greatest};
 
-    const GREATEST: i32 = 10_000;
+    const LEAST: i32 = AnalysedFlueTemperature::LEAST;
 
-    ghost LEAST = { pos 0 };
+    const GREATEST: i32 = AnalysedFlueTemperature::GREATEST;
 
-    ghost GREATEST = { pos 10000 };
+    ghost LEAST = { least };
+
+    ghost GREATEST = { greatest };
 
     ghost amount = { λ held. held.0 };
 
@@ -168,14 +208,22 @@ impl From<AnalysedFlueTemperature> for FlueTemperature {
 #[derive(Clone, Copy)]
 pub struct SurfaceTemperature(pub i16);
 
+impl SurfaceTemperature {
+    pub const LEAST: i32 = -200;
+
+    pub const GREATEST: i32 = 3_000;
+}
+
 impl Measure for SurfaceTemperature {
-    const LEAST: i32 = -200;
+    ghost use Rattle.quantity.specs.declared.temperature.TheConstants.SurfaceTemperature.{LEAST as least, GREATEST as greatest};
 
-    const GREATEST: i32 = 3_000;
+    const LEAST: i32 = SurfaceTemperature::LEAST;
 
-    ghost LEAST = { neg_ℤ (pos 200) };
+    const GREATEST: i32 = SurfaceTemperature::GREATEST;
 
-    ghost GREATEST = { pos 3000 };
+    ghost LEAST = { least };
+
+    ghost GREATEST = { greatest };
 
     ghost amount = { λ held. held.0 };
 
@@ -210,14 +258,22 @@ impl SurfaceTemperature {
 #[derive(Clone, Copy)]
 pub struct NearAir(pub i16);
 
+impl NearAir {
+    pub const LEAST: i32 = -200;
+
+    pub const GREATEST: i32 = 500;
+}
+
 impl Measure for NearAir {
-    const LEAST: i32 = -200;
+    ghost use Rattle.quantity.specs.declared.temperature.TheConstants.NearAir.{LEAST as least, GREATEST as greatest};
 
-    const GREATEST: i32 = 500;
+    const LEAST: i32 = NearAir::LEAST;
 
-    ghost LEAST = { neg_ℤ (pos 200) };
+    const GREATEST: i32 = NearAir::GREATEST;
 
-    ghost GREATEST = { pos 500 };
+    ghost LEAST = { least };
+
+    ghost GREATEST = { greatest };
 
     ghost amount = { λ held. held.0 };
 
