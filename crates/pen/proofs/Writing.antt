@@ -3,10 +3,10 @@ use mathlib.Core.Path.{◌≡◌, refl, sym, ap, ◌∙◌}
 use mathlib.Core.List.{List, [], ◌∷◌, ◌++◌, append_assoc, append-nil}
 use Prim.Native.Nat.{ℕ, zero, suc, ◌+◌, ◌-◌, ◌≤◌, ◌<◌}
 use native.Mathlib.Nat.{add-zero, zero-add, suc-add}
+use native.Mathlib.Numerals.{add-one}
 use native.Mathlib.Omega.{arith}
 use lib.ListN.{length, take, drop, set, length-append, length-take, length-drop, take-append-drop, drop_of_length-le}
 use lib.Seq.{take_all, take_at, drop_at, set_split, drop-drop, drop-nil, drop-append_seam, take-append_seam, length-take-le}
-use borrow.Rule.Slice.PartMut.{put_mid}
 use Rattle.std.proofs.lemmas.List.{take-set-le}
 use Rattle.pen.specs.Writing.{over, Written}
 
@@ -66,10 +66,10 @@ next {at} {end} {a = a} {b} {old} w v = record {
   holds = v.holds ∙ rw (w.ends, w.holds) (over-over at a b old);
 }
 
--- a part that became the text
-pub copied : {at k : ℕ} {text old part : List ℕ} → part ≡ text → k ≡ length text → Written at text old (put_mid at k old part) (at + length text)
+-- one byte written by an assignment
+pub one_byte : (at b : ℕ) (old : List ℕ) → at < length old → Written at (b ∷ []) old (set old at b) (at + 1)
 unfolding over
-copied e q = rw (e, q) (record { ends = refl; holds = refl })
+one_byte at b old h = record { ends = refl; holds = set_split old at b h ∙ rw (drop-drop, add-one) }
 
 -- the last byte of a text may be written before the others
 pub last-first : (at i b : ℕ) (a old : List ℕ) → at + length a ≡ i → i < length old → over at a (set old i b) ≡ over at (a ++ (b ∷ [])) old

@@ -71,15 +71,15 @@ fn digits_at(out: &mut [u8], at: usize, n: u64) -> usize
     end
 }
 
-// Puts bytes at a place, and answers where they end.
-#[tactic(auto, using(crate::proofs::Writing::copied))]
+// Puts bytes at a place, and answers where they end. One by one, for who links the library: docs/DECISIONS.md, "A report's bytes are put one by one".
 pub fn bytes_at(out: &mut [u8], at: usize, src: &[u8]) -> usize
     requires { at + length src.now ≤ length out.old }
     ensures { Written at src.now out.old out.new result }
 {
-    let end = at + src.len();
-    out[at..end].copy_from_slice(src);
-    end
+    for i in 0..src.len() {
+        out[at + i] = src[i];
+    }
+    at + src.len()
 }
 
 // Puts a comma and a number, and answers where they end.
