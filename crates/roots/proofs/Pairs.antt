@@ -51,8 +51,8 @@ short {n} {p} b h k =
 pair-mod : (m j k : ℕ) → m % 2 ^ (j + 2 + k) / 2 ^ k % 4 ≡ m / 2 ^ k % 4
 pair-mod m j k = rw (field m (j + 2) k) (mod-mod-pow (m / 2 ^ k) j 2)
 
-pub half-pair : (n half from p q : ℕ) → half ≡ n / 2 ^ from % 2 ^ 32 → from + 2 * q ≡ 2 * p → q < 16 → half / 2 ^ (2 * q) % 4 ≡ n / 2 ^ (2 * p) % 4
-half-pair n half from p q is bits h =
+pub half-pair : (n half from to q : ℕ) → half ≡ n / 2 ^ from % 2 ^ 32 → from + 2 * q ≡ to → q < 16 → half / 2 ^ (2 * q) % 4 ≡ n / 2 ^ to % 4
+half-pair n half from to q is bits h =
     let e : 30 - 2 * q + 2 + 2 * q ≡ 32 = omega arith in
     rw (is, ← bits) (rw (shr-shr n from (2 * q)) at (rw e at (pair-mod (n / 2 ^ from) (30 - 2 * q) (2 * q))))
 

@@ -1,5 +1,5 @@
 -- Each root is brought as far as one is in `floor_root`'s loop, by pairs that are the half's and so the number's.
-use Rattle.std.proofs.Common.{◌≡◌, ◌+◌, ◌-◌, ◌%◌, arith}
+use Rattle.std.proofs.Common.{◌≡◌, ◌+◌, ◌-◌, ◌*◌, ◌%◌, arith}
 use Rattle.roots.proofs.Pairs.{one_brought, short, half-pair}
 use Rattle.roots.proofs.several.Works.down.Goals as goal
 
@@ -12,7 +12,7 @@ loop-pair-preserved c =
       omega arith,
       λ k h.
           let p = c.loop-pair.pair - 1 in
-          let pair = half-pair _ _ _ p (p % 16) (c.halves-half.ensures k h) (omega (arith, c.requires)) (omega arith) in
+          let pair = half-pair _ _ _ (2 * p) (p % 16) (c.halves-half.ensures k h) (omega (arith, c.requires)) (omega arith) in
           one_brought one (c.loop-pair.invariant.1 k h) (rw pair at (c.stepped-works.ensures k h)),
     )
 
