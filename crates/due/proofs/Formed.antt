@@ -61,7 +61,7 @@ module _ (s : List ℕ) (p : Place) (key : List ℕ) (n : ℕ) (r : Ready s p) (
   text = drop p.at s
 
   -- the numbers of the line, whether it is in form or not
-  line-values : (l : Result Formed Refusal) → l ≡ line_at s p.at key n → values_in l ≡ values_at s p key n
+  pub line-values : (l : Result Formed Refusal) → l ≡ line_at s p.at key n → values_in l ≡ values_at s p key n
   unfolding values_at
   line-values l e = rw (yes, e)
 
@@ -69,17 +69,18 @@ module _ (s : List ℕ) (p : Place) (key : List ℕ) (n : ℕ) (r : Ready s p) (
   refused-cases P (refused y) x e = let q : y ≡ x = cc in rw q refl
   refused-cases P (values row size) x e = cc
 
-  -- one that is handed out as refused
-  pub form_refused : (x : Refusal) → Err x ≡ line_at s p.at key n → FormAfter s p key n (refused_at x p.line) zeros
+  -- one that is handed out as refused, whatever would hold of a row
+  pub refused_after : (x : Refusal) (P : Row → Type 0) → Err x ≡ line_at s p.at key n → After s p (read_form key n) (refused_at x p.line) P
   unfolding line_at
-  form_refused x e = record {
-    after = record {
-      reads = λ h. refused-cases _ (formed_by key n text) x (sym e);
-      passes = λ h. not-both (good p) yes h;
-      fair = λ h. not-both (good (refused_at x p.line)) h (ne_eqb (number x) 0 (λ z. omega (arith, (numbered x).some)));
-    };
-    whole = line-values (Err x) e;
+  refused_after x P e = record {
+    reads = λ h. refused-cases P (formed_by key n text) x (sym e);
+    passes = λ h. not-both (good p) yes h;
+    fair = λ h. not-both (good (refused_at x p.line)) h (ne_eqb (number x) 0 (λ z. omega (arith, (numbered x).some)));
   }
+
+  -- and its numbers are zeros
+  pub form_refused : (x : Refusal) → Err x ≡ line_at s p.at key n → FormAfter s p key n (refused_at x p.line) zeros
+  form_refused x e = record { after = refused_after x _ e; whole = line-values (Err x) e }
 
   -- one that is handed out with numbers is read, and they are its row's
   read-cases : (j : Judged) → formed_by key n text ≡ j → (l : Formed) → handed p.at j ≡ Ok l

@@ -26,7 +26,7 @@ use Rattle.due.specs.Form.{form_of, read_form, DueAfter, LineTaken}
 use Rattle.due.proofs.Places.{after-left}
 use Rattle.due.proofs.Lines.{line_after, good_test, ruled-after}
 
-alone : {s : List ℕ} {p q q' : Place} {fault : ℕ} (l : Line) (v : List Number) (x : ℤ)
+pub alone : {s : List ℕ} {p q q' : Place} {fault : ℕ} (l : Line) (v : List Number) (x : ℤ)
     → After s p (form_of l) q (λ row. from 0 (length l.fields) v ≡ row.numbers)
     → Chain 0 1 l.fields (from 0 (length l.fields) v) (x ∷ []) fault → q' ≡ ranged p.line q fault
     → After s p (read_line l (λ row. none)) q' (λ row. x ≡ get_or row.numbers 0 (pos 0))
