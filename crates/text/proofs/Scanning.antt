@@ -1,4 +1,4 @@
--- What finding, counting and a beginning say of lists: first one step of finding, then what a caller needs.
+-- What finding, counting and a beginning say of lists: first one step of finding and of counting, then what a caller needs.
 -- Assumes nothing.
 use mathlib.Core.Path.{◌≡◌, refl, sym, ap, ◌∙◌}
 use mathlib.Core.Bool.{Bool, true, false, cond, not, ◌&&◌}
@@ -27,6 +27,19 @@ module _ (c : ℕ) (s : List ℕ) (i : ℕ) (h : i < length s) where
   pub find_miss : (get_or s i 0 ≡ c → ⊥) → find s i c ≡ find s (i + 1) c
   unfolding up_to
   find_miss n = rw (add-one, drop-cons s i 0, ne_eqb (get_or s i 0) c n) (omega arith)
+
+  pub count_hit : get_or s i 0 ≡ c → count (drop i s) c ≡ count (drop (i + 1) s) c + 1
+  unfolding count
+  count_hit e = simp (add-one, drop-cons s i 0 h, eq-eqb (get_or s i 0) c e)
+
+  pub count_miss : (get_or s i 0 ≡ c → ⊥) → count (drop i s) c ≡ count (drop (i + 1) s) c
+  unfolding count
+  count_miss n = rw (add-one, drop-cons s i 0, ne_eqb (get_or s i 0) c n)
+
+module _ (c : ℕ) (s : List ℕ) (i : ℕ) (h : length s ≤ i) where
+  pub count_end : count (drop i s) c ≡ 0
+  unfolding count
+  count_end = rw (drop_of_length-le s h)
 
 -- The piece before the first c: it is the list's front, has no c, and c follows it unless it is the whole list.
 pub up_to_front : (c : ℕ) (l : List ℕ) → take (length (up_to c l)) l ≡ up_to c l
