@@ -1,5 +1,5 @@
 -- What decides whether a key stands at a place, and what a caller learns where it does. Assumes nothing.
-use Rattle.std.proofs.Common.{◌≡◌, ℕ, suc, ◌+◌, ◌-◌, ◌≤◌, Bool, true, false, cond, not, ◌&&◌, ◌||◌, eqb, leb, List, [], ◌∷◌, length, take, drop, refl, ap, arith, ne_eqb, eqb-true, le-leb, leb-true, length-append, length-drop}
+use Rattle.std.proofs.Common.{◌≡◌, ℕ, suc, ◌+◌, ◌-◌, ◌≤◌, Bool, true, false, cond, not, ◌&&◌, ◌||◌, eqb, leb, List, [], ◌∷◌, length, take, drop, refl, ap, arith, eq-eqb, ne_eqb, eqb-true, le-leb, leb-true, length-append, length-drop}
 use mathlib.Core.Bool.{and-false}
 use lib.Seq.{take_all}
 use Rattle.std.specs.List.{list_any}
@@ -39,6 +39,10 @@ module _ (s : List ℕ) (at : ℕ) (key : List ℕ) where
           let r = ap length (begins-key key (drop at s) q) in
           rw (le-leb (at + length key) (length s) (omega (arith, r, length-append key (drop (length key) (drop at s)), length-drop at s))) (twice u)
       here false q u = and-false (leb (at + length key) (length s))
+
+  pub key-stands : at + length key ≤ length s → begins key (drop at s) ≡ true → count key 10 ≡ 0 → standing s at key ≡ true
+  unfolding standing
+  key-stands h e f = rw (le-leb (at + length key) (length s) h, e, eq-eqb (count key 10) 0 f)
 
   pub inside : standing s at key ≡ true → at + length key ≤ length s
   unfolding standing
