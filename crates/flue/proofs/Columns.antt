@@ -1,9 +1,17 @@
--- Table A.1 as the code has it, with a row of 0 at its end: a row of it is the definition's. Assumes nothing.
-use Rattle.std.proofs.Common.{ℕ, zero, suc, ◌+◌, ◌-◌, ◌*◌, ◌/◌, ◌%◌, ◌≡◌, refl, ◌∙◌, List, [], ◌∷◌, ◌++◌, map, get_or}
+-- Table A.1 as the code has it, with a row of 0 at its end: a row of it is the definition's; and how large an entry of a column is. Assumes nothing.
+use Prim.Native.Nat.{zero-le}
+use Rattle.std.proofs.Common.{ℕ, zero, suc, ◌+◌, ◌-◌, ◌*◌, ◌/◌, ◌%◌, ◌≤◌, ◌≡◌, refl, ◌∙◌, List, [], ◌∷◌, ◌++◌, map, get_or}
 use lib.ListN.{get_or-map}
+use Rattle.document.specs.Rules.{Every}
 use Rattle.formulas.specs.Tables.{FlueGases, flue_table, flue_row, no_row}
 use Rattle.formulas.specs.Formulas.{column_at}
 use Rattle.flue.specs.declared.FlueRow.{FlueRow}
+
+-- an entry, or the 0 beyond them
+pub entry-most : {m : ℕ} (l : List ℕ) → Every (λ x. x ≤ m) l → (i : ℕ) → get_or l i 0 ≤ m
+entry-most [] h i = zero-le
+entry-most (x ∷ l) h zero = h.0
+entry-most (x ∷ l) h (suc i) = entry-most l h.1 i
 
 abbrev pub row : FlueGases → FlueRow
 row g = record { co = g.co; co2 = g.co2; o2 = g.o2; n2 = g.n2 }
