@@ -20,7 +20,6 @@ ghost use Rattle.flue.specs.Steps.{hottest, entry_most, DryFits, RateFits, Burns
 
 use burning::mixture::Burning;
 use formulas::rounding::Quotient;
-use limits::Count;
 use quantity::gas::{CarbonMonoxide, CubicMetres, ExcessAir, Moisture};
 use quantity::heat::Joules;
 use quantity::sheet::StageCount;

@@ -8,7 +8,6 @@ use crate::{
     Analysis, Fuel, GASES, Head, Part, Parts, Reading, Section, SectionReadings, Sections, Setter,
     Setters, Sheet, Stage, Stages, Stuff, Ware, Water,
 };
-use limits::{Count, Measure};
 use quantity::gas::{CarbonMonoxide, CubicMetres, ExcessAir, Moisture, Share};
 use quantity::heat::{HeatingValue, SpecificHeat};
 use quantity::kiln::{Area, Material, Minutes, SectionNumber, SectionPlace};

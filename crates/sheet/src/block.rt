@@ -3,7 +3,7 @@ ghost use Rattle.std.specs.Prelude.{◌≡◌, min};
 ghost use Rattle.sheet.specs.Block.{stages_of, total_gas};
 
 use crate::Stages;
-use limits::{Count, Number};
+use limits::Number;
 use quantity::sheet::StageCount;
 
 // How many lines a block holds: its count, and never more than it has room for.

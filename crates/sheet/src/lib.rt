@@ -7,7 +7,6 @@ pub mod block;
 ghost use Rattle.std.specs.Prelude.{◌≡◌};
 ghost use Rattle.sheet.specs.Refusals.{number, field};
 
-use limits::Count;
 use quantity::gas::{CarbonMonoxide, CubicMetres, Dioxides, ExcessAir, Moisture, Oxygen, Share};
 use quantity::heat::{HeatingValue, SpecificHeat};
 use quantity::kiln::{Area, Material, Minutes, SectionNumber, SectionPlace};

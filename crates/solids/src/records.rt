@@ -14,7 +14,6 @@ ghost use Rattle.formulas.specs.Sizes.{greatest, sensible_most, setters_heat_mos
 ghost use Rattle.solids.specs.Steps.{records_most, Loads, WareWarmed, WareFired, setters_of, parts_of};
 
 use crate::material::sensible;
-use limits::Count;
 use quantity::heat::Joules;
 use quantity::mass::{Kilos, Product};
 use quantity::sheet::{PartCount, SetterCount};

@@ -17,7 +17,6 @@ ghost use Rattle.formulas.specs.Steps.{over};
 ghost use Rattle.surface.specs.Cells.{FourthFits, DifferenceFits, LostFits, RiseIn, HotIn, ReadingIn, WallIn, LostIn, Rooted, EachRooted, Seen};
 
 use formulas::rounding::Quotient;
-use limits::Count;
 use quantity::heat::Joules;
 use quantity::kiln::{Area, Minutes, SectionPlace};
 use quantity::sheet::{SectionCount, StageCount, WallCount};

@@ -10,7 +10,6 @@ ghost use Rattle.walls.specs.Surfaces.{SurfacesRead};
 
 use crate::rows::wall_block;
 use due::{Heard, Place};
-use limits::Count;
 use quantity::sheet::SectionCount;
 use sections::section_block;
 use sheet::{SectionReadings, Sections};

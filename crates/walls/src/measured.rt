@@ -3,7 +3,6 @@ ghost use Rattle.std.specs.Prelude.{◌≡◌, ◌≤◌, ◌<◌};
 ghost use Rattle.sheet.specs.Quantities.{sections_most, stages_most};
 ghost use Rattle.walls.specs.Cells.{row_read, all_read};
 
-use limits::Count;
 use quantity::sheet::SectionCount;
 use sheet::SectionReadings;
 

@@ -11,7 +11,6 @@ ghost use Rattle.walls.specs.Surfaces.{WallsRead};
 
 use crate::line::{Wall, colder, reading_of, wall_line};
 use due::{Heard, Place, counted_line, ruled};
-use limits::Count;
 use quantity::sheet::{SectionCount, StageCount, WallCount};
 use sections::section_place;
 use sheet::{Reading, Refusal, Section, SectionReadings, Sections};
